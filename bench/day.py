@@ -37,6 +37,8 @@ from nixkeep_dev.testing.http_messages import free_port, lines
 # How many objects and bytes the store has, how many periods the day, and how often each user acts in one.
 Size = namedtuple("Size", "objects total periods rounds")
 WHOLE, QUICK = Size(100_000, 1434 * MIB, 6, 20), Size(1000, 14 * MIB, 2, 3)
+# The seconds that a user who reads while something else is done rests after each request.
+RESTS = 0.05
 # What each user does in a period: the chances of the four.
 DOES = {"add": 6, "profile": 2, "pull": 3, "question": 3}
 
@@ -83,8 +85,8 @@ class Day:
 
     def reads(self, name, ends):
         """A user reads closures until the event is set, and asks again where the server has gone away."""
-        user = User(self.team, self.port, name, f"{name} reads")
-        while not ends.wait(0.05):
+        user = User(self.team, self.port, name, f"{name} reads", RESTS)
+        while not ends.wait(RESTS):
             with contextlib.suppress(OSError, http.client.HTTPException):
                 user.pull()
         return user.asked

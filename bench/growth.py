@@ -5,9 +5,12 @@
   roots       1,000 and 10,000 permanent roots of 10,000 objects
 
 Each action is a command on a file, which opens and tests all of it, and a request to a server that has opened it. Of
-three rounds the least counts. What stays the same has an exponent near 0. Needs SQLite 3.37 or later. With --quick,
-each store has a tenth of that.
+five rounds the least counts. In each round an action is measured over the small store and right afterwards over the
+large one, and the rounds of an action are far apart: a machine that is slower for some seconds slows no action alone.
+What stays the same has an exponent near 0. Needs SQLite 3.37 or later. With --quick, each store has a tenth of that.
 """
+import contextlib
+import functools
 import tempfile
 from pathlib import Path
 
@@ -17,67 +20,78 @@ from nixkeep_dev.bench.sqlite import base, filled
 from nixkeep_dev.testing.http_messages import lines
 from nixkeep_dev.testing.requests import text
 
-ROUNDS = 3
+ROUNDS = 5
 TIMES = 10
 # How many roots a store has where they don't grow. All lead to the second half of the objects, which refer to those
 # after them alone, so the first half is dead.
 ROOTS = 500
 
 
-def by_command(run, path, objects):
-    """The seconds of commands, by name."""
-    live = base(objects - 1)
-    each = {
-        "list": lambda at: ["list"],
-        "info": lambda at: ["info", live],
-        "add-text": lambda at: ["add-text", f"text{at}", live],
-        "roots": lambda at: ["roots"],
-        "why": lambda at: ["why", live],
-        "live": lambda at: ["live"],
-        "dead": lambda at: ["dead"],
-        "root": lambda at: ["root", "--permanent", f"new{at}", live],
-        "delete": lambda at: ["delete", base(at)],
-        "gc": lambda at: ["gc", "--max-freed", "1"],
+def commands(live, at):
+    """The words of each command, by name, in a round."""
+    return {
+        "list": ["list"],
+        "info": ["info", live],
+        "add-text": ["add-text", f"text{at}", live],
+        "roots": ["roots"],
+        "why": ["why", live],
+        "live": ["live"],
+        "dead": ["dead"],
+        "root": ["root", "--permanent", f"new{at}", live],
+        # (of the dead, a deletion and a collection take one after another)
+        "delete": ["delete", base(2 * at)],
+        "gc": ["gc", "--max-freed", "1"],
     }
-    return {name: [run(path, *words(at))[0] for at in range(ROUNDS)] for name, words in each.items()}
 
 
-def by_request(run, path, objects):
-    """The seconds of requests over one connection, by name."""
-    live = base(objects - 1)
-    each = {
-        "GET /paths": lambda at: (),
-        f"GET /info/{live}": lambda at: (),
-        "POST /text": lambda at: (text(f"more{at}", b"%1024d" % at, live),),
-        "GET /roots": lambda at: (),
-        f"GET /roots-of/{live}": lambda at: (),
-        "GET /live": lambda at: (),
-        "GET /dead": lambda at: (),
-        # (those before are gone: a command deleted as many, and a collection too)
-        "POST /delete": lambda at: (lines(("path", base(2 * ROUNDS + at))),),
-        "POST /collect": lambda at: (lines(("max-freed", 1)),),
+def requests(live, at):
+    """The method, the target and the body of each request, by name, in a round."""
+    return {
+        "GET /paths": ["GET", "/paths"],
+        "GET /info/{path}": ["GET", f"/info/{live}"],
+        "POST /text": ["POST", "/text", text(f"more{at}", b"%1024d" % at, live)],
+        "GET /roots": ["GET", "/roots"],
+        "GET /roots-of/{path}": ["GET", f"/roots-of/{live}"],
+        "GET /live": ["GET", "/live"],
+        "GET /dead": ["GET", "/dead"],
+        # (those before are gone by the commands)
+        "POST /delete": ["POST", "/delete", lines(("path", base(2 * (ROUNDS + at))))],
+        "POST /collect": ["POST", "/collect", lines(("max-freed", 1))],
     }
-    with served(run, path) as server:
-        took = lambda it, at: timed(server.client.ask, *it.split(), *each[it](at))
-        return {name.replace(live, "{path}"): [took(name, at) for at in range(ROUNDS)] for name in each}
 
 
-def measured(run, folder, objects, references, roots):
-    """The seconds of each action over such a store."""
+def store(run, folder, objects, references, roots):
+    """Such a store, and a live path of it."""
     path = f"{tempfile.mkdtemp(dir=folder)}/store.db"
     targets = [objects // 2 + at * (objects // 2) // roots for at in range(roots)]
     filled(run, path, objects, 200, references, targets, False)
-    found = {**by_command(run, path, objects), **by_request(run, path, objects)}
-    Path(path).unlink()
-    return found
+    return path, base(objects - 1)
+
+
+def in_turn(actions, calls):
+    """The seconds of each action by each of the calls, by name: in each round, one call right after the other."""
+    took = {name: [[] for _ in calls] for name in actions(calls[0][1], 0)}
+    for at in range(ROUNDS):
+        for name, all_times in took.items():
+            for (call, live), times in zip(calls, all_times, strict=True):
+                times.append(call(*actions(live, at)[name]))
+    return took
 
 
 def grown(run, folder, what, few, many):
     """Prints the exponents between two stores."""
     title(what)
-    few, many = (measured(run, folder, *it) for it in (few, many))
-    for name in few:
-        exponent(name, few[name], many[name], TIMES)
+    stores = [store(run, folder, *it) for it in (few, many)]
+    took = in_turn(commands, [(lambda *words, path=path: run(path, *words)[0], live) for path, live in stores])
+    with contextlib.ExitStack() as servers:
+        clients = [servers.enter_context(served(run, path)).client for path, _ in stores]
+        calls = [(functools.partial(timed, client.ask), live)
+                 for client, (_, live) in zip(clients, stores, strict=True)]
+        took |= in_turn(requests, calls)
+    for path, _ in stores:
+        Path(path).unlink()
+    for name, (few, many) in took.items():
+        exponent(name, few, many, TIMES)
 
 
 def objects(run, words, folder):

@@ -20,10 +20,11 @@ class Differs(Exception):
 
 
 class User:
-    """A user of the server: each request is a connection of its own."""
+    """A user of the server: each request is a connection of its own. A user `rests` for some seconds after each."""
 
-    def __init__(self, team: Team, port: int, name: str, seed: int | str):
+    def __init__(self, team: Team, port: int, name: str, seed: int | str, rests: float = 0):
         self.team, self.port, self.name, self.rng = team, port, name, random.Random(f"{seed} {name}")
+        self.rests = rests
         self.asked, self.made, self.pinned = [], 0, []
 
     def ask(self, kind: str, method: str, target: str, body: bytes | None = None) -> tuple[int, bytes]:
@@ -34,6 +35,7 @@ class User:
             reply = connection.getresponse()
             text = reply.read()
         self.asked.append(Asked(kind, sent, time.perf_counter() - sent))
+        time.sleep(self.rests)
         return reply.status, text
 
     def same(self, kind: str, method: str, target: str, body: bytes | None = None) -> str:
