@@ -27,7 +27,7 @@ def ignored(path):
     """
     used = max((count for _, _, count in store_file.commits(path)), default=0)
     try:
-        with open(store_file.log_of(path), "rb") as log:
+        with store_file.opened(store_file.log_of(path)) as log:
             salt, found = frames(log)
     except OSError:
         return Ignored(0, 0)
@@ -39,7 +39,7 @@ def ignored(path):
 def has_bad_head(path):
     """Whether a log that isn't empty begins with something else than the head of a log."""
     try:
-        with open(store_file.log_of(path), "rb") as log:
+        with store_file.opened(store_file.log_of(path)) as log:
             head = log.read(HEAD)
     except OSError:
         return False

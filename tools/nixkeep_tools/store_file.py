@@ -10,12 +10,14 @@ All sizes are bytes of archives, as in `nixkeep report`. Paths are base names.
 """
 import collections
 import contextlib
+import errno
 import fcntl
 import functools
 import hashlib
 import operator
 import os
 import sqlite3
+import stat
 import struct
 import sys
 import urllib.parse
@@ -72,6 +74,15 @@ class Locked(OSError):
         self.path, self.pid = path, pid
 
 
+def opened(path: str) -> BinaryIO:
+    """A file that is open for reading. Raises OSError for what is no file: a pipe would be waited for."""
+    file = open(path, "rb", opener=lambda it, flags: os.open(it, flags | os.O_NONBLOCK))
+    if stat.S_ISREG(os.fstat(file.fileno()).st_mode):
+        return file
+    file.close()
+    raise OSError(errno.EINVAL, "it is no file", path)
+
+
 def locker(file: BinaryIO) -> int | None:
     """The number of the process whose lock keeps nixkeep from an open file, or None if there is no lock.
 
@@ -125,7 +136,7 @@ def commits(path: str) -> Iterator[tuple[bytes | None, int, int]]:
     frames of the log up to there.
     """
     try:
-        log = open(log_of(path), "rb")
+        log = opened(log_of(path))
     except OSError:
         return
     with log:
@@ -177,7 +188,7 @@ def open_store(path: str, despite_lock: bool = False) -> Iterator[sqlite3.Connec
 
     With `despite_lock` a locked file is read all the same. Its rows may be torn if `stamps` changes meanwhile.
     """
-    with open(path, "rb") as file:
+    with opened(path) as file:
         pid = locker(file)
         if pid is not None and not despite_lock:
             raise Locked(path, pid)
