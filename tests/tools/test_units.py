@@ -356,6 +356,67 @@ def test_a_copy_under_load(machine):
     assert '"succeeded"' in machine.output("cat /var/lib/nixkeep/red/backup.json"), "its state"
 
 
+# (a slow test of a copy, in the place of nixkeep-explain)
+SLOW = """import runpy, time
+time.sleep(8)
+runpy.run_path("/usr/lib/nixkeep/nixkeep-explain.kept", run_name="__main__")
+"""
+
+
+@on_a_machine
+def test_a_stop_while_a_copy_is_tested(machine):
+    """Whoever stops a server finds it stopped, also once the copy is done. Before that it runs again by itself."""
+    machine("cd /usr/lib/nixkeep; cp nixkeep-explain nixkeep-explain.kept")
+    Path(machine.root, "usr/lib/nixkeep/nixkeep-explain").write_text(SLOW)
+    machine("systemctl start nixkeep-backup@red; until systemctl is-active --quiet nixkeep@red; do sleep 0.3; done")
+    machine("systemctl stop nixkeep@red.socket nixkeep@red")
+    assert machine.state("nixkeep-backup@red") == "active", "the copy is still tested"
+    machine("while systemctl is-active --quiet nixkeep-backup@red; do sleep 0.3; done; sleep 1")
+    assert machine.state("nixkeep@red") == "inactive"
+    assert machine.output("journalctl -u nixkeep-backup@red -o cat | grep -c objects") == "2", "there is another copy"
+    machine("mv /usr/lib/nixkeep/nixkeep-explain.kept /usr/lib/nixkeep/nixkeep-explain")
+    machine("systemctl start nixkeep@red.socket nixkeep@red")
+    copy = "systemctl kill --kill-whom=main -s KILL nixkeep-backup@red"
+    machine(f"systemctl start --no-block nixkeep-backup@red; until {copy} 2>/dev/null; do sleep 0.05; done")
+    machine("until systemctl is-active --quiet nixkeep@red; do sleep 0.3; done")
+    assert states(machine) == ["active"] * 3, "after a copy that was killed the server runs"
+
+
+# What a service that was taken over may put in the place of its file, and what a copy says of that.
+HOSTILE = {"mkfifo store.db": "it is no file", "ln -s /dev/zero store.db": "No such file", "true": "No such file",
+           "cp kept.db store.db": "the server has another one open", "mkdir store.db": "it is no file"}
+
+
+@on_a_machine
+def test_a_service_that_was_taken_over(machine):
+    """What it leaves in its folder holds up no copy, stops no server, and has root read or write nothing."""
+    main = "systemctl show -p MainPID --value nixkeep@red"
+    before, folder = machine.output(main), "cd /var/lib/nixkeep/red"
+    for line, said in HOSTILE.items():
+        at = f"setpriv --reuid={user_of(machine)} --regid={user_of(machine)} --clear-groups sh -c '{line}'"
+        machine(f"{folder}; mv store.db kept.db; {at}")
+        status = machine("timeout 60 systemctl start --wait nixkeep-backup@red")[0]
+        machine(f"{folder}; rm -rf store.db; mv kept.db store.db")
+        lines = machine.output("journalctl -u nixkeep-backup@red -o cat | grep 'failed: ' | tail -n 1")
+        assert status == 1 and f"{said}: the server isn't stopped" in lines, (line, status, lines)
+    assert machine.output(main) == before, "the server goes on"
+    assert machine("systemctl start --wait nixkeep-backup@red")[0] == 0, "and is copied again"
+    machine("until systemctl is-active --quiet nixkeep@red; do sleep 0.3; done")
+
+
+@on_a_machine
+def test_the_shell_of_sqlite(machine):
+    """The line of the page runs it as the store's account: it deletes no file of root's, and the file is the store's."""
+    line = re.search(r"^systemd-run .*?VACUUM$", Path(HERE, "docs/OPERATING.md").read_text(), re.M | re.S)[0]
+    machine("systemctl stop nixkeep-backup@red.timer nixkeep-backup@red; systemctl stop nixkeep@red.socket nixkeep@red")
+    was = machine.output("stat -c '%u %a' /var/lib/nixkeep/red/store.db /var/lib/nixkeep/red/")
+    status, said = machine(line)
+    assert status == 0, said
+    assert machine.output("stat -c '%u %a' /var/lib/nixkeep/red/store.db /var/lib/nixkeep/red/") == was
+    machine("systemctl start nixkeep@red.socket nixkeep@red nixkeep-backup@red.timer")
+    assert states(machine) == ["active"] * 3
+
+
 @on_a_machine
 def test_a_restore(machine):
     """A timer that comes in the middle of a restore by hand does nothing; then a restore as one command."""
