@@ -294,7 +294,13 @@ def test_who_sees_what(machine):
     assert "000" in machine.output(as_user("nobody-red", f"{line} 2>/dev/null")), "nobody else may"
     inside = "nsenter --mount --target $(systemctl show -p MainPID --value nixkeep@red)"
     assert machine.output(f"{inside} ls /etc/nixkeep") == "red.toml", "the unit sees its configuration alone"
-    assert machine(f"{inside} {as_user('nobody-red', 'ls /run/nixkeep')}")[0] != 0, "no socket"
+    sockets = "find /run /tmp /var -type s 2>/dev/null"
+    assert machine.output(f"{inside} {sockets}") == "/run/systemd/notify", "no other program's socket"
+    account = f"setpriv --reuid={user_of(machine)} --regid={user_of(machine)} --clear-groups"
+    written = f"{inside} {account} find / -xdev -type d -writable 2>/dev/null | sort"
+    assert machine.output(written) == "/tmp\n/var/tmp", "what it may write on the machine's disk, which are its own"
+    common = "for it in /run /run/lock /dev /dev/shm /dev/mqueue /etc/nixkeep; do touch $it/probe 2>/dev/null && echo $it; done"
+    assert machine.output(f"{inside} {account} sh -c '{common}'") == "", "and nothing that others write"
     assert machine.output(f"{inside} ls /var/lib/private/nixkeep") == "red", "no file of another store"
     files = "/var/lib/nixkeep/red/store.db /var/lib/nixkeep/red/store.db-wal"
     assert machine.output(f"stat -c '%u %a' {files}") == "\n".join([f"{user_of(machine)} 600"] * 2), "what is made"
@@ -383,8 +389,9 @@ def test_a_stop_while_a_copy_is_tested(machine):
 
 
 # What a service that was taken over may put in the place of its file, and what a copy says of that.
-HOSTILE = {"mkfifo store.db": "it is no file", "ln -s /dev/zero store.db": "No such file", "true": "No such file",
-           "cp kept.db store.db": "the server has another one open", "mkdir store.db": "it is no file"}
+HOSTILE = {"mkfifo store.db": "it is no file", "ln -s /dev/zero store.db": "No such file or directory",
+           "true": "No such file or directory", "cp kept.db store.db": "the server has another one open",
+           "mkdir store.db": "it is no file"}
 
 
 @on_a_machine
@@ -420,16 +427,17 @@ def test_the_shell_of_sqlite(machine):
 @on_a_machine
 def test_a_restore(machine):
     """A timer that comes in the middle of a restore by hand does nothing; then a restore as one command."""
+    copies = machine.output("ls /var/lib/nixkeep-backup/red")
     machine("systemctl stop nixkeep@red.socket nixkeep@red; cd /var/lib/nixkeep/red; mkdir away; mv store.db* away")
     machine("systemctl start --wait nixkeep-backup@red; sleep 1")
     assert machine.state("nixkeep@red") == "inactive", "the server stays stopped"
     assert machine("ls /var/lib/nixkeep/red/store.db")[0] == 2, "no file is made"
-    assert machine.output("ls /var/lib/nixkeep-backup/red | wc -l") == "1", "nor a copy"
+    assert machine.output("ls /var/lib/nixkeep-backup/red") == copies, "nor a copy"
     machine("cd /var/lib/nixkeep/red; mv away/* .; systemctl start nixkeep@red.socket nixkeep@red")
     line = f"{AS_ANN}/paths"
     machine(f"printf 'name: lost\\n\\nlost' | {AS_ANN}/text --data-binary @-")
     assert "-lost" in machine.output(line), "what a restore loses"
-    status, said = machine("nixkeep-backup restore red /var/lib/nixkeep-backup/red/*Z.db")
+    status, said = machine(f"nixkeep-backup restore red /var/lib/nixkeep-backup/red/{copies.split()[0]}")
     assert status == 0 and said.startswith("restored "), ("a restore", said)
     assert states(machine) == ["active"] * 3
     paths = machine.output(line)

@@ -64,7 +64,20 @@ def of_log(path):
         return [] if os.access(folder, os.W_OK) else [Reason(f"this user may make no log in the folder {folder}", True)]
     if os.path.islink(log) or not os.path.isfile(log):
         return [Reason(f"its log {log} is a link, a folder or a device, and no file", False)]
-    return of_file(log, f"its log {log}")
+    return [*of_file(log, f"its log {log}"), *of_pages(path, log)]
+
+
+def of_pages(path, log):
+    """A log for pages of another size belongs to another file, if it has a frame. SQLite may pass over it."""
+    try:
+        with store_file.opened(path) as file, store_file.opened(log) as data:
+            own, head, more = file.read(18), data.read(32), data.read(24)
+    except OSError:
+        return []
+    size, of_log = int.from_bytes(own[16:18], "big"), int.from_bytes(head[8:12], "big")
+    if len(more) < 24 or own[:16] != HEAD or not store_file.is_log_head(head) or of_log == (65_536 if size == 1 else size):
+        return []
+    return [Reason(f"its log {log} has pages of {of_log} bytes, and the file has others", True)]
 
 
 def of_journal(path):

@@ -129,6 +129,12 @@ def is_log_head(head: bytes) -> bool:
     return order is not None and len(head) == 32 and _sum(head[:24], order, 0, 0) == struct.unpack(">2I", head[24:])
 
 
+def page_of_log(head: bytes) -> int | None:
+    """The bytes of a page in a log that begins with these 32 bytes; None if SQLite takes nothing from it."""
+    size = int.from_bytes(head[8:12], "big")
+    return size if is_log_head(head) and 512 <= size <= 65_536 and not size & size - 1 else None
+
+
 def commits(path: str) -> Iterator[tuple[bytes | None, int, int]]:
     """Yields the commits that SQLite takes from the log of a file.
 
@@ -141,9 +147,9 @@ def commits(path: str) -> Iterator[tuple[bytes | None, int, int]]:
         return
     with log:
         head, first = log.read(32), None
-        if not is_log_head(head):
+        if not (size := page_of_log(head)):
             return
-        order, size = LOG_ORDERS[head[:4]], struct.unpack(">I", head[8:12])[0]
+        order = LOG_ORDERS[head[:4]]
         so_far = struct.unpack(">2I", head[24:])
         count = 0
         while len(frame := log.read(24 + size)) == 24 + size:
