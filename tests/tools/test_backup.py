@@ -367,7 +367,8 @@ def test_what_is_in_the_place_of_a_running_store(what, owner, store):
         put, line = PLACED[what]
         with in_the_place(store.file, put):
             status, _, errors = backup(*words)
-        assert status == 1 and re.search(rf"failed: file: {store.file}: {line}.*the server isn't stopped", errors), errors
+        wanted = rf"failed: file: {store.file}: {line}.*the server isn't stopped"
+        assert status == 1 and re.search(wanted, errors), errors
         assert not note.exists()
         assert backup(*words) == (0, "", ""), "and with the file again it does"
 
@@ -388,7 +389,8 @@ def test_who_reads_for_root(folder):
 
 def test_a_look_without_an_end(monkeypatch):
     monkeypatch.setattr(as_owner, "SECONDS", 0.3)
-    began, endless = time.monotonic(), "WITH RECURSIVE c (x) AS (SELECT 1 UNION ALL SELECT 1 FROM c) SELECT max(x) FROM c"
+    endless = "WITH RECURSIVE c (x) AS (SELECT 1 UNION ALL SELECT 1 FROM c) SELECT max(x) FROM c"
+    began = time.monotonic()
     look = lambda: sqlite3.connect(":memory:").execute(endless).fetchone()
     assert as_owner.by_child(lambda: None, look) is None
     assert time.monotonic() - began < 20
@@ -396,8 +398,9 @@ def test_a_look_without_an_end(monkeypatch):
         assert as_owner.by_child(lambda: None, it) is None
 
 
-@pytest.mark.parametrize("text, line", [(b"total 0 0\n" * 1000, "more than 1000 bytes"), (None, "more than 1000 bytes"),
-                                        (b"total %s 0\n" % (b"9" * 900), "has no total")], ids=["long", "endless", "huge"])
+@pytest.mark.parametrize("text, line", [
+    (b"total 0 0\n" * 1000, "more than 1000 bytes"), (None, "more than 1000 bytes"),
+    (b"total %s 0\n" % (b"9" * 900), "has no total")], ids=["long", "endless", "huge"])
 def test_a_hostile_report(text, line, store):
     """It fills no disk: a note has a report."""
     note = Path(store.folder, "note")

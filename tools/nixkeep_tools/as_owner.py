@@ -40,7 +40,7 @@ def confine(opened, seen):
     os.setuid(seen.st_uid)
 
 
-def by_child(confine, look):
+def by_child(confine: Callable[[], None], look: Callable[[], dict]) -> dict | None:
     """What a child answers, or None."""
     # (OpenSSL reads its configuration at its first use, which shouldn't be in that folder)
     hashlib.sha256()

@@ -84,7 +84,8 @@ class Child:
         """Ends this process if the program was replaced, as by an upgrade that has restarted nothing: another one may
         migrate the file, and what starts this process makes a copy of it before."""
         if self.identity != identity(self.words[0]):
-            sys.exit(f"nixkeep-cache: the server has ended, and {self.words[0]} is another program by now: start this again")
+            sys.exit(f"nixkeep-cache: the server has ended, and {self.words[0]} is another program by now: "
+                     "start this again")
 
     async def serve(self) -> tuple[int, bool]:
         """Starts a server, and waits for its end. Returns its status, and whether it has answered."""

@@ -75,7 +75,8 @@ def of_pages(path, log):
     except OSError:
         return []
     size, of_log = int.from_bytes(own[16:18], "big"), int.from_bytes(head[8:12], "big")
-    if len(more) < 24 or own[:16] != HEAD or not store_file.is_log_head(head) or of_log == (65_536 if size == 1 else size):
+    size = 65_536 if size == 1 else size
+    if len(more) < 24 or own[:16] != HEAD or not store_file.is_log_head(head) or of_log == size:
         return []
     return [Reason(f"its log {log} has pages of {of_log} bytes, and the file has others", True)]
 
