@@ -259,6 +259,21 @@ def test_a_journal(path):
     says([path], f"{path}: {BAD_SCHEMA}: another program stopped *", 3)
 
 
+@pytest.mark.parametrize("size, more, is_refused", [(4096, 1 << 20, False), (8192, 24, True), (8192, 23, False),
+                                                    (0, 1 << 36, True), (0xFFFFFFF0, 1 << 36, True)])
+def test_a_log_of_other_pages(nixkeep, path, size, more, is_refused):
+    """A log of another file is refused, and one that is long and sparse takes neither time nor memory."""
+    head = struct.pack(">4I8x", 0x377F0682, 3_007_000, size, 0)
+    Path(f"{path}-wal").write_bytes(head + struct.pack(">2I", *store_file._sum(head, "<", 0, 0)))
+    os.truncate(f"{path}-wal", 32 + more)
+    assert nixkeep(path, "list")[2] == (3 if is_refused else 0)
+    Path(f"{path}-wal").write_bytes(head + struct.pack(">2I", *store_file._sum(head, "<", 0, 0)))
+    os.truncate(f"{path}-wal", 32 + more)
+    output, status, errors = explained(path)
+    assert (status, errors) == (3 if is_refused else 0, "")
+    assert (f"has pages of {size} bytes, and the file has others" in output) == is_refused
+
+
 def test_a_journal_that_names_a_file(path, folder):
     """SQLite would delete that file, whichever it is. The tools leave it, and say so."""
     Path(named := f"{folder}/na\nmed").write_text("any")

@@ -128,8 +128,8 @@ def test_what_a_terminal_obeys(folder):
 
 
 # What a file may have in the place of a name, a path or a label, for whoever runs what was rescued of it.
-HOSTILE = ["'$(touch${IFS}ran)`touch${IFS}ran`", "'; touch ran; '", "x\nEND\ntouch ran\n", "../../ran", "-e", "\x1b[2J\\",
-           "a\"\ntouch ran #"]
+HOSTILE = ["'$(touch${IFS}ran)`touch${IFS}ran`", "'; touch ran; '", "x\nEND\ntouch ran\n", "../../ran", "-e",
+           "\x1b[2J\\", "a\"\ntouch ran #"]
 TEXTS = [(table, it.split()[0]) for table, (columns, _) in store_file.FORMS.items() for it in columns if "TEXT" in it]
 # It answers as a server does, or says nothing.
 STAND_IN = """#!/bin/sh
