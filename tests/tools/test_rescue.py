@@ -152,7 +152,7 @@ def test_what_a_shell_obeys(at, folder, rng):
         _, status, errors = explained("--rescue", out, path)
         assert (status, errors) in ((0, ""), (3, "")), (table, column)
         # (what isn't in the script isn't run by it)
-        if "ran" in Path(out, "restore").read_text().replace(path, ""):
+        if any(it in Path(out, "restore").read_text() for it in ("touch", "../")):
             came.add(table)
             ran = subprocess.run(["sh", f"{out}/restore", f"{folder}/new.db"], cwd=folder, capture_output=True,
                                  env={**os.environ, "NIXKEEP": str(stand_in)})
