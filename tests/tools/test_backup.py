@@ -4,6 +4,7 @@ systemctl is a script here, which notes what it is asked.
 """
 import contextlib
 import datetime
+import errno
 import fcntl
 import itertools
 import json
@@ -19,7 +20,8 @@ import pytest
 
 from nixkeep_dev.build.program import HERE
 from nixkeep_dev.testing.store import killed
-from nixkeep_tools import backup_folder, backup_restore, http_client, objects, store_file
+from nixkeep_tools import as_owner, backup_file, backup_folder, backup_restore, http_client, objects, store_file
+from nixkeep_tools.failures import Stop
 from tests.tools import servers
 from tests.tools.servers import ran
 
@@ -186,7 +188,11 @@ def test_a_failure_costs_no_copy(store, good):
     lines = [it.removeprefix("nixkeep-backup: failed: ").partition(":")[0] for it in errors.splitlines()]
     assert (status, lines) == (1, ["state", "test"]), "a state that can't be written hides no reason"
     os.mkfifo(pipe := f"{store.folder}/pipe.db")
-    fails(store.copy("--seconds", "1", file=pipe), "more than 1 seconds", store, good)
+    fails(store.copy(file=pipe), "it is no file", store, good)
+    os.symlink(f"{store.to}/{store.copies()[0]}", f"{store.folder}/log.db")
+    os.mkfifo(f"{store.to}/{store.copies()[0]}-wal")
+    assert backup_file.rows(f"{store.folder}/log.db")[0] == 6, "a pipe in the place of a log"
+    os.unlink(f"{store.to}/{store.copies()[0]}-wal")
     with open(store.file, "r+b") as held:
         # (the bytes that SQLite and nixkeep lock)
         fcntl.lockf(held, fcntl.LOCK_EX, 512, 1 << 30)
@@ -327,6 +333,81 @@ def test_a_check_of_a_server(store, units):
 
 def fails_with(line, came):
     assert came[0] == 1 and line in came[2]
+
+
+@contextlib.contextmanager
+def in_the_place(file, put):
+    """What `put(file)` puts in the place of a file, which is back at the end."""
+    os.rename(file, f"{file}.kept")
+    try:
+        put(file)
+        yield
+    finally:
+        with contextlib.suppress(FileNotFoundError):
+            os.unlink(file)
+        os.rename(f"{file}.kept", file)
+
+
+PLACED = {"nothing": (lambda _: None, "No such file"), "a pipe": (os.mkfifo, "it is no file"),
+          "a device": (lambda file: os.symlink("/dev/zero", file), "(it is no file|No such file)"),
+          "a folder's file": (lambda file: os.symlink(f"{Path(file).parent}/copies", file), "(Is a dir|No such file)"),
+          "another store": (lambda file: shutil.copy(f"{file}.kept", file), "the server has another one open")}
+
+
+@pytest.mark.parametrize("what", PLACED)
+@pytest.mark.parametrize("owner", [0, 1234] if os.geteuid() == 0 else [os.geteuid()])
+def test_what_is_in_the_place_of_a_running_store(what, owner, store):
+    """A check stops no server whose file is gone, and waits for no pipe. As root it follows no link of another."""
+    note = Path(store.folder, "note")
+    with servers.server(store.program, "--config", store.config, "--db", store.file) as port:
+        words = [*store.options("check"), "--db", store.file, "--server", f"http://127.0.0.1:{port}", "--note", note]
+        os.chown(store.folder, owner, owner)
+        for it in (store.file, f"{store.file}-wal"):
+            os.chown(it, owner, owner)
+        put, line = PLACED[what]
+        with in_the_place(store.file, put):
+            status, _, errors = backup(*words)
+        wanted = rf"failed: file: {store.file}: {line}.*the server isn't stopped"
+        assert status == 1 and re.search(wanted, errors), errors
+        assert not note.exists()
+        assert backup(*words) == (0, "", ""), "and with the file again it does"
+
+
+@pytest.mark.skipif(os.geteuid() != 0, reason="root alone can be another account")
+def test_who_reads_for_root(folder):
+    os.chown(folder, 1234, 1235)
+    seen = lambda path: {"path": path, "ids": [*os.getresuid(), *os.getresgid(), *os.getgroups()],
+                         "root": sorted(os.listdir("/")), "read": Path(path).read_text()}
+    Path(folder, "mine").write_text("text")
+    os.symlink(__file__, f"{folder}/link")
+    assert as_owner.looked(f"{folder}/mine", seen) == {
+        "path": "/mine", "ids": [1234] * 3 + [1235] * 3, "root": ["link", "mine"], "read": "text"}
+    assert as_owner.looked(f"{folder}/link", seen) is None, "a file outside of the folder"
+    os.chown(folder, 0, 0)
+    assert as_owner.looked(f"{folder}/mine", seen)["path"] == f"{folder}/mine", "root's own folder"
+
+
+def test_a_look_without_an_end(monkeypatch):
+    monkeypatch.setattr(as_owner, "SECONDS", 0.3)
+    endless = "WITH RECURSIVE c (x) AS (SELECT 1 UNION ALL SELECT 1 FROM c) SELECT max(x) FROM c"
+    began = time.monotonic()
+    look = lambda: sqlite3.connect(":memory:").execute(endless).fetchone()
+    assert as_owner.by_child(lambda: None, look) is None
+    assert time.monotonic() - began < 20
+    for it in (lambda: 1 / 0, lambda: "no table", lambda: {"long": "x" * 100_000}):
+        assert as_owner.by_child(lambda: None, it) is None
+
+
+@pytest.mark.parametrize("text, line", [
+    (b"total 0 0\n" * 1000, "more than 1000 bytes"), (None, "more than 1000 bytes"),
+    (b"total %s 0\n" % (b"9" * 900), "has no total")], ids=["long", "endless", "huge"])
+def test_a_hostile_report(text, line, store):
+    """It fills no disk: a note has a report."""
+    note = Path(store.folder, "note")
+    with servers.server(store.program, "--config", store.config, "--db", store.file):
+        with servers.answering(lambda *_: (200, "text/plain", text)) as url:
+            fails_with(line, backup(*store.options("check"), "--db", store.file, "--server", url, "--note", note))
+    assert not [it for it in os.listdir(store.folder) if it.startswith("note")]
 
 
 def of_later_schema(store):
@@ -495,19 +576,77 @@ def test_a_restore(store, restored, units):
         assert all_of(ask) == before, "the store is as it was"
 
 
-def test_a_restore_that_is_stopped(store, good, monkeypatch):
-    """Before the copy has its place the store is left there: no server begins a new one."""
-    was = store.bytes()
+class Stopped(BaseException):
+    """A stop at once, without anything that is done at an end."""
 
-    def stopped(*_):
-        raise KeyboardInterrupt
 
-    with pytest.raises(KeyboardInterrupt), monkeypatch.context() as patch:
-        patch.setattr(os, "rename", stopped)
-        backup_restore.put(f"{store.to}/{store.copies()[0]}", store.folder)
-    assert Path(store.file).read_bytes() == was["store.db"]
+def failing_at(patch, place, error):
+    """The call at this place, among those that change a folder, raises the error in place of what it does. Those after
+    it are done."""
+    count = itertools.count()
+
+    def changed(real):
+        def call(*words, **more):
+            if next(count) == place:
+                raise error
+            return real(*words, **more)
+        return call
+
+    for it in ("open", "link", "unlink", "rename", "mkdir", "rmdir", "fchown", "fsync"):
+        patch.setattr(os, it, changed(getattr(os, it)))
+    return count
+
+
+@pytest.mark.parametrize("error", [Stopped(), OSError(errno.EIO, "none")], ids=["stopped", "failing"])
+def test_a_restore_that_is_stopped(error, store, good, monkeypatch):
+    """At each step: a server opens the store as it was with its log, or as the copy has it, or refuses the file. Then
+    all that was there is in the folder for that, or in its place."""
+    was, copy, refused = store.bytes(), f"{store.to}/{store.copies()[0]}", 0
+    listed = lambda file: ran([store.program, "--config", store.config, "--db", file, "--user", "build", "roots"])
+    wanted = listed(copy)
+    for place in itertools.count():
+        room = Path(store.folder, f"room{place}")
+        room.mkdir()
+        for it, data in was.items():
+            Path(room, it).write_bytes(data)
+        with monkeypatch.context() as patch, contextlib.suppress(Stopped, Stop):
+            reached = failing_at(patch, place, error)
+            backup_restore.put(copy, str(room))
+        if next(reached) <= place:
+            break
+        status, output, errors = listed(f"{room}/store.db")
+        assert status == 3 or (status, output, errors) == wanted, place
+        if status == 3:
+            aside, = room.glob("aside-*")
+            assert {it: next(at / it for at in (aside, room) if (at / it).exists()).read_bytes() for it in was} == was
+            refused += 1
+    assert place > 10 and 0 < refused < 8
+
+
+def test_two_restores_at_once(store, restored):
+    opened = os.open(store.folder, os.O_RDONLY)
+    fcntl.flock(opened, fcntl.LOCK_EX)
+    before = store.bytes()
+    fails_with("another restore is running", restored(f"{store.to}/{store.copies()[0]}"))
+    assert store.bytes() == before
+    os.close(opened)
+
+
+@pytest.mark.parametrize("names", [["store.db"], ["store.db-wal", "store.db-x"]])
+def test_a_restore_of_what_a_service_has_left(names, store, restored):
+    """Folders in the place of files are moved away as files are."""
+    with store.opened() as ask:
+        wanted = all_of(ask)
+    for it in names:
+        with contextlib.suppress(FileNotFoundError):
+            os.unlink(f"{store.folder}/{it}")
+        os.makedirs(f"{store.folder}/{it}/more")
+    status, output, errors = restored(f"{store.to}/{store.copies()[0]}")
+    assert (status, errors) == (0, "") and output.startswith("restored 6 objects, ")
     aside, = Path(store.folder).glob("aside-*")
-    assert {it.name: it.read_bytes() for it in aside.iterdir()} == was, "what it has moved aside"
+    assert all((aside / it / "more").is_dir() for it in names)
+    with store.opened() as ask:
+        assert all_of(ask) == wanted
 
 
 # ---- copies before a migration

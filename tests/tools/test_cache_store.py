@@ -5,6 +5,7 @@ import fcntl
 import os
 import random
 import re
+import shutil
 import signal
 import socket
 import sqlite3
@@ -50,6 +51,26 @@ def test_a_server_that_is_a_child(unit):
         time.sleep(1)
         store.start()
         assert len(late.communicate()[0].splitlines()) == 4, "who connects between two starts is answered"
+
+
+def test_a_program_that_was_replaced(unit, folder):
+    """A server that ends after an upgrade isn't started again by nixkeep-cache, which ends too: the unit copies a file
+    of an earlier schema before another program opens it."""
+    with unit() as store:
+        at = store.words.index("--nixkeep") + 1
+        was, store.words[at] = store.words[at], f"{folder}/program"
+        store.end()
+        shutil.copy(was, f"{folder}/program")
+        store.start()
+        assert ask(store.place, "ann", "POST", "/text", text("one"))[0] == 200
+        shutil.copy(was, f"{folder}/another")
+        os.rename(f"{folder}/another", f"{folder}/program")
+        assert ask(store.place, "ann", "POST", "/text", text("two"))[0] == 200, "the server goes on"
+        store.kill_server()
+        assert store.running.wait(60) == 1
+        assert store.lines()[-1].endswith(f"{folder}/program is another program by now: start this again")
+        store.start()
+        assert len(ask(store.place, "ann", "GET", "/paths")[1].splitlines()) == 2, "the next start is as any"
 
 
 def test_stores_that_are_refused(program, folder):

@@ -13,6 +13,7 @@ import os
 import re
 import shutil
 import sqlite3
+import struct
 import subprocess
 import sys
 import tempfile
@@ -28,7 +29,7 @@ from nixkeep_dev.testing.requests import text as text_body
 from nixkeep_dev.testing.store import killed
 from nixkeep_dev.testing.tables import ALL, BEFORE, Built, made_by, put, sqlite, statements
 from nixkeep_dev.testing.unsound import Faulty, schemas
-from nixkeep_tools import explain, store_file
+from nixkeep_tools import explain, explain_file, store_file
 from tests.tools.explained import BAD_SCHEMA, EXPLAIN, change_bytes, explained, some_store
 
 # ---- planted faults
@@ -256,6 +257,49 @@ def test_no_path(path):
 def test_a_journal(path):
     Path(f"{path}-journal").write_bytes(b"x")
     says([path], f"{path}: {BAD_SCHEMA}: another program stopped *", 3)
+
+
+@pytest.mark.parametrize("size, more, is_refused", [(4096, 1 << 20, False), (8192, 24, True), (8192, 23, False),
+                                                    (0, 1 << 36, True), (0xFFFFFFF0, 1 << 36, True)])
+def test_a_log_of_other_pages(nixkeep, path, size, more, is_refused):
+    """A log of another file is refused, and one that is long and sparse takes neither time nor memory."""
+    head = struct.pack(">4I8x", 0x377F0682, 3_007_000, size, 0)
+    Path(f"{path}-wal").write_bytes(head + struct.pack(">2I", *store_file._sum(head, "<", 0, 0)))
+    os.truncate(f"{path}-wal", 32 + more)
+    assert nixkeep(path, "list")[2] == (3 if is_refused else 0)
+    Path(f"{path}-wal").write_bytes(head + struct.pack(">2I", *store_file._sum(head, "<", 0, 0)))
+    os.truncate(f"{path}-wal", 32 + more)
+    output, status, errors = explained(path)
+    assert (status, errors) == (3 if is_refused else 0, "")
+    assert (f"has pages of {size} bytes, and the file has others" in output) == is_refused
+
+
+def test_a_journal_that_names_a_file(path, folder):
+    """SQLite would delete that file, whichever it is. The tools leave it, and say so."""
+    Path(named := f"{folder}/na\nmed").write_text("any")
+    ends = {hot_journal(path, named.encode()): f", and deletes {folder}/na\\nmed, which the journal names",
+            b"x" + explain_file.JOURNAL: "", b"x" + struct.pack(">2I", 1 << 31, 0) + explain_file.JOURNAL: "",
+            b"x" + bytes(16): "", hot_journal(path, named.encode())[:-1]: ""}
+    for data, deletes in ends.items():
+        Path(f"{path}-journal").write_bytes(data)
+        line = f"left {path}-journal: sqlite3 undoes the change when it opens the file{deletes}\n"
+        assert explained(path) == (f"{path}: {BAD_SCHEMA}: another program stopped in a change, and {line}", 3, "")
+    Path(f"{path}-journal").write_bytes(next(iter(ends)))
+    with store_file.open_store(path) as conn:
+        store_file.read(conn)
+    assert store_file.version(path) and Path(named).exists()
+    sqlite(path, "SELECT * FROM meta")
+    assert not Path(named).exists(), "what SQLite does"
+
+
+def hot_journal(path, named):
+    """A journal that has the first page of a file, and names another file as that of a change of several databases."""
+    size, page = 4_096, Path(path).read_bytes()[:4_096]
+    pages = Path(path).stat().st_size // size
+    total = sum(page[at] for at in range(size - 200, 0, -200))
+    head = explain_file.JOURNAL + struct.pack(">5I", 1, 0, pages, 512, size)
+    end = struct.pack(">I", (1 << 30) // size + 1) + named + struct.pack(">2I", len(named), sum(named))
+    return head.ljust(512, b"\0") + struct.pack(">I", 1) + page + struct.pack(">I", total) + end + explain_file.JOURNAL
 
 
 def test_two_names(nixkeep, path, folder):

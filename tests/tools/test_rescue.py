@@ -127,6 +127,43 @@ def test_what_a_terminal_obeys(folder):
     assert all(it in output for it in ("are \\x1b", "two\\nlines")), "it is printed as an escape"
 
 
+# What a file may have in the place of a name, a path or a label, for whoever runs what was rescued of it.
+HOSTILE = ["'$(touch${IFS}ran)`touch${IFS}ran`", "'; touch ran; '", "x\nEND\ntouch ran\n", "../../ran", "-e",
+           "\x1b[2J\\", "a\"\ntouch ran #"]
+TEXTS = [(table, it.split()[0]) for table, (columns, _) in store_file.FORMS.items() for it in columns if "TEXT" in it]
+# It answers as a server does, or says nothing.
+STAND_IN = """#!/bin/sh
+for last; do :; done
+[ "$last" != serve ] || grep -a -o 'POST /import HTTP' | sed 's#.*#HTTP/1.1 200 OK#'
+"""
+
+
+@pytest.mark.parametrize("at", range(len(HOSTILE)))
+def test_what_a_shell_obeys(at, folder, rng):
+    """Nothing that a file has is run by the script that was rescued of it, or is a path outside of the folder."""
+    sound, text, stand_in, came = f"{folder}/sound.db", HOSTILE[at], Path(folder, "nixkeep"), set()
+    put(sound, fifty(rng)[0].rows(), ALL)
+    stand_in.write_text(STAND_IN)
+    stand_in.chmod(0o755)
+    for table, column in TEXTS:
+        path, out = shutil.copy(sound, f"{folder}/hostile.db"), f"{folder}/rescued"
+        with contextlib.closing(sqlite3.connect(path)) as conn, conn:
+            conn.execute(f"UPDATE {table} SET {column} = ? WHERE rowid = (SELECT max(rowid) FROM {table})", (text,))
+        _, status, errors = explained("--rescue", out, path)
+        assert (status, errors) in ((0, ""), (3, "")), (table, column)
+        # (what isn't in the script isn't run by it)
+        if any(it in Path(out, "restore").read_text() for it in ("touch", "../")):
+            came.add(table)
+            ran = subprocess.run(["sh", f"{out}/restore", f"{folder}/new.db"], cwd=folder, capture_output=True,
+                                 env={**os.environ, "NIXKEEP": str(stand_in)})
+            assert (ran.returncode, ran.stderr) == (0, b""), (table, column)
+        found = {it.name for at in (folder, f"{folder}/..", out, f"{out}/objects") for it in Path(at).iterdir()}
+        assert "ran" not in found and sorted(os.listdir(out)) == ["objects", "restore", "store.toml"]
+        shutil.rmtree(out)
+    # (the label of a runtime root may be any word)
+    assert came == ({"runtime"} if "IFS" in text or "/" in text else set())
+
+
 def test_rescues_by_chance(rng, folder, many):
     """Whatever is damaged, what is written for an import is an object of the store as it was. Some damage is found, and
     some objects are written: else nothing was tried."""

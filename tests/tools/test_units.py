@@ -294,7 +294,15 @@ def test_who_sees_what(machine):
     assert "000" in machine.output(as_user("nobody-red", f"{line} 2>/dev/null")), "nobody else may"
     inside = "nsenter --mount --target $(systemctl show -p MainPID --value nixkeep@red)"
     assert machine.output(f"{inside} ls /etc/nixkeep") == "red.toml", "the unit sees its configuration alone"
-    assert machine(f"{inside} {as_user('nobody-red', 'ls /run/nixkeep')}")[0] != 0, "no socket"
+    # (a file that another one is mounted over is of its own type in a listing)
+    sockets = r"find /run /tmp -exec test -S {} \; -print 2>/dev/null"
+    assert machine.output(f"{inside} {sockets}") == "/run/systemd/notify", "no other program's socket"
+    account = f"setpriv --reuid={user_of(machine)} --regid={user_of(machine)} --clear-groups"
+    written = f"{inside} {account} find / -xdev -type d -writable 2>/dev/null | sort"
+    assert machine.output(written) == "/tmp\n/var/tmp", "what it may write on the machine's disk, which are its own"
+    folders = "/run /run/lock /dev /dev/shm /dev/mqueue /etc/nixkeep"
+    common = f"for it in {folders}; do touch $it/probe 2>/dev/null && echo $it; done"
+    assert machine.output(f"{inside} {account} sh -c '{common}'") == "", "and nothing that others write"
     assert machine.output(f"{inside} ls /var/lib/private/nixkeep") == "red", "no file of another store"
     files = "/var/lib/nixkeep/red/store.db /var/lib/nixkeep/red/store.db-wal"
     assert machine.output(f"stat -c '%u %a' {files}") == "\n".join([f"{user_of(machine)} 600"] * 2), "what is made"
@@ -356,19 +364,84 @@ def test_a_copy_under_load(machine):
     assert '"succeeded"' in machine.output("cat /var/lib/nixkeep/red/backup.json"), "its state"
 
 
+# (a slow test of a copy, in the place of nixkeep-explain)
+SLOW = """import runpy, time
+time.sleep(8)
+runpy.run_path("/usr/lib/nixkeep/nixkeep-explain.kept", run_name="__main__")
+"""
+
+
+@on_a_machine
+def test_a_stop_while_a_copy_is_tested(machine):
+    """Whoever stops a server finds it stopped, also once the copy is done. Before that it runs again by itself."""
+    machine("cd /usr/lib/nixkeep; cp nixkeep-explain nixkeep-explain.kept")
+    Path(machine.root, "usr/lib/nixkeep/nixkeep-explain").write_text(SLOW)
+    machine("systemctl start nixkeep-backup@red; until systemctl is-active --quiet nixkeep@red; do sleep 0.3; done")
+    machine("systemctl stop nixkeep@red.socket nixkeep@red")
+    assert machine.state("nixkeep-backup@red") == "active", "the copy is still tested"
+    machine("while systemctl is-active --quiet nixkeep-backup@red; do sleep 0.3; done; sleep 1")
+    assert machine.state("nixkeep@red") == "inactive"
+    assert machine.output("journalctl -u nixkeep-backup@red -o cat | grep -c objects") == "2", "there is another copy"
+    machine("mv /usr/lib/nixkeep/nixkeep-explain.kept /usr/lib/nixkeep/nixkeep-explain")
+    machine("systemctl start nixkeep@red.socket nixkeep@red")
+    copy = "systemctl kill --kill-whom=main -s KILL nixkeep-backup@red"
+    machine(f"systemctl start --no-block nixkeep-backup@red; until {copy} 2>/dev/null; do sleep 0.05; done")
+    machine("until systemctl is-active --quiet nixkeep@red; do sleep 0.3; done")
+    assert states(machine) == ["active"] * 3, "after a copy that was killed the server runs"
+
+
+# What a service that was taken over may put in the place of its file, and what a copy says of that.
+HOSTILE = {"mkfifo store.db": "it is no file", "ln -s /dev/zero store.db": "No such file or directory",
+           "true": "No such file or directory", "cp kept.db store.db": "the server has another one open",
+           "mkdir store.db": "Is a directory"}
+
+
+@on_a_machine
+def test_a_service_that_was_taken_over(machine):
+    """What it leaves in its folder holds up no copy, stops no server, and has root read or write nothing."""
+    main = "systemctl show -p MainPID --value nixkeep@red"
+    before, folder = machine.output(main), "cd /var/lib/nixkeep/red"
+    for line, said in HOSTILE.items():
+        at = f"setpriv --reuid={user_of(machine)} --regid={user_of(machine)} --clear-groups sh -c '{line}'"
+        machine(f"{folder}; mv store.db kept.db; {at}")
+        status = machine("timeout 60 systemctl start --wait nixkeep-backup@red")[0]
+        machine(f"{folder}; rm -rf store.db; mv kept.db store.db")
+        lines = machine.output("journalctl -u nixkeep-backup@red -o cat | grep 'failed: ' | tail -n 1")
+        assert status == 1 and f"{said}: the server isn't stopped" in lines, (line, status, lines)
+    assert machine.output(main) == before, "the server goes on"
+    # (systemd refuses a sixth start within ten seconds)
+    copied = machine("systemctl reset-failed nixkeep-backup@red; systemctl start --wait nixkeep-backup@red")
+    assert copied[0] == 0, ("and is copied again", copied)
+    machine("until systemctl is-active --quiet nixkeep@red; do sleep 0.3; done")
+
+
+@on_a_machine
+def test_the_shell_of_sqlite(machine):
+    """The line of the page runs it as the store's account, and the file stays the store's."""
+    line = re.search(r"^systemd-run .*?VACUUM$", Path(HERE, "docs/OPERATING.md").read_text(), re.M | re.S)[0]
+    machine("systemctl stop nixkeep-backup@red.timer nixkeep-backup@red; systemctl stop nixkeep@red.socket nixkeep@red")
+    was = machine.output("stat -c '%u %a' /var/lib/nixkeep/red/store.db /var/lib/nixkeep/red/")
+    status, said = machine(line)
+    assert status == 0, said
+    assert machine.output("stat -c '%u %a' /var/lib/nixkeep/red/store.db /var/lib/nixkeep/red/") == was
+    machine("systemctl start nixkeep@red.socket nixkeep@red nixkeep-backup@red.timer")
+    assert states(machine) == ["active"] * 3
+
+
 @on_a_machine
 def test_a_restore(machine):
     """A timer that comes in the middle of a restore by hand does nothing; then a restore as one command."""
+    copies = machine.output("ls /var/lib/nixkeep-backup/red")
     machine("systemctl stop nixkeep@red.socket nixkeep@red; cd /var/lib/nixkeep/red; mkdir away; mv store.db* away")
     machine("systemctl start --wait nixkeep-backup@red; sleep 1")
     assert machine.state("nixkeep@red") == "inactive", "the server stays stopped"
     assert machine("ls /var/lib/nixkeep/red/store.db")[0] == 2, "no file is made"
-    assert machine.output("ls /var/lib/nixkeep-backup/red | wc -l") == "1", "nor a copy"
+    assert machine.output("ls /var/lib/nixkeep-backup/red") == copies, "nor a copy"
     machine("cd /var/lib/nixkeep/red; mv away/* .; systemctl start nixkeep@red.socket nixkeep@red")
     line = f"{AS_ANN}/paths"
     machine(f"printf 'name: lost\\n\\nlost' | {AS_ANN}/text --data-binary @-")
     assert "-lost" in machine.output(line), "what a restore loses"
-    status, said = machine("nixkeep-backup restore red /var/lib/nixkeep-backup/red/*Z.db")
+    status, said = machine(f"nixkeep-backup restore red /var/lib/nixkeep-backup/red/{copies.split()[0]}")
     assert status == 0 and said.startswith("restored "), ("a restore", said)
     assert states(machine) == ["active"] * 3
     paths = machine.output(line)

@@ -1,17 +1,20 @@
 """What is tested before a server is stopped, for a copy or an upgrade: that it runs, and could start again."""
 import argparse
+import contextlib
 import json
 import os
 import sqlite3
 import subprocess
 from pathlib import Path
 
-from . import backup_file, store_file
+from . import as_owner, backup_file, store_file
 from .failures import Stop, reason
 from .http_client import Place, Server
 
 # The part of a unit's memory that an opened store may need for its archives; opening takes more than their bytes.
 OPENS = 0.75
+# The bytes of a report, which has four lines.
+REPORT = 1_000
 
 
 def report_of(url, config):
@@ -21,7 +24,7 @@ def report_of(url, config):
     server = Server(Place(url), fields)
     try:
         reply = server.ask("GET", "/report")
-        text = reply.text()
+        text = reply.text(REPORT)
     finally:
         server.connection.close()
     if reply.status:
@@ -43,16 +46,42 @@ def refuse_large(text, unit):
                    "the server isn't stopped")
 
 
-def refuse_newer(path):
+def seen(path):
+    """The schema of a file and the version of its store; both None where it can't be read, as while it is written."""
+    with contextlib.suppress(OSError, sqlite3.Error, MemoryError):
+        return {"schema": backup_file.schema_of(path, despite_lock=True), "version": store_file.version(path)}
+    return {"schema": None, "version": None}
+
+
+def refuse_newer(path, number):
     """Raises Stop for a file of a later schema, as after a downgrade of the program: this one doesn't open it."""
-    try:
-        number = backup_file.schema_of(path, despite_lock=True)
-    except (OSError, sqlite3.Error):
-        # (it is being written)
-        return
     if number is not None and number > max(store_file.LACKS):
         raise Stop(f"failed: schema: {path} is of schema {number}, which this program doesn't open: the server isn't "
                    "stopped")
+
+
+def held(path):
+    """Why a file isn't the one that a running server has open, or None."""
+    try:
+        with store_file.opened(path) as file:
+            why = "the server has another one open" if store_file.locker(file) is None else None
+    except OSError as error:
+        why = reason(error)
+    return {"why": why}
+
+
+def refuse_replaced(path):
+    """Raises Stop for a file that was deleted or replaced below its server, whose store would be lost with its end."""
+    if why := looked_at(path, held)["why"]:
+        raise Stop(f"failed: file: {path}: {why}: the server isn't stopped")
+
+
+def looked_at(path, look):
+    """What is seen of a file, by its owner."""
+    found = as_owner.looked(path, look)
+    if found is None:
+        raise Stop(f"failed: file: {path}: it can't be read: the server isn't stopped")
+    return found
 
 
 def check(words: argparse.Namespace) -> None:
@@ -61,15 +90,16 @@ def check(words: argparse.Namespace) -> None:
     if words.unit and not is_active(words.unit):
         raise Stop(f"failed: unit: {words.unit} doesn't run, so nothing is copied")
     backup_file.ran(backup_file.words_of(backup_file.program_of(words), words.config, "who"), "configuration")
-    refuse_newer(words.db)
-    before = store_file.version(words.db)
+    before = looked_at(words.db, seen)
+    refuse_newer(words.db, before["schema"])
     text = report_of(words.server, words.config)
+    refuse_replaced(words.db)
     if not backup_file.TOTAL.search(text):
         raise Stop("failed: report: the server's report has no total")
     if words.unit:
         refuse_large(text, words.unit)
     if words.note:
-        write_note(words.note, {"version": before, "report": text}, Path(words.db).parent)
+        write_note(words.note, {"version": before["version"], "report": text}, Path(words.db).parent)
 
 
 def is_active(unit):
@@ -92,6 +122,8 @@ def write_note(path, note, folder):
             json.dump(note, file)
         os.rename(fresh, path)
     except OSError as error:
+        with contextlib.suppress(OSError):
+            os.unlink(fresh)
         raise Stop(f"failed: note: {path}: {reason(error)}") from None
 
 

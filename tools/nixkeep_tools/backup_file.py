@@ -16,7 +16,7 @@ from .failures import REFUSED, Stop, reason
 
 HERE = Path(__file__).resolve().parents[1]
 PAGES = 1_000
-TOTAL = re.compile(r"^total +(\d+) +(\d+)$", re.M)
+TOTAL = re.compile(r"^total +(\d{1,18}) +(\d{1,18})$", re.A | re.M)
 
 
 # ---- the configuration
@@ -57,9 +57,9 @@ def words_of(program: str, config: str | None, *more: str) -> list[str]:
 # ---- a file
 
 
-def fresh(path: str, flags: int = os.O_WRONLY | os.O_CREAT | os.O_EXCL) -> int:
-    """The number of a new file that only its owner may read; none may be there."""
-    return os.open(path, flags | os.O_NOFOLLOW, 0o600)
+def fresh(path: str, flags: int = os.O_WRONLY | os.O_CREAT | os.O_EXCL, folder: int | None = None) -> int:
+    """The number of a new file that only its owner may read; none may be there. `folder` is an open one of a name."""
+    return os.open(path, flags | os.O_NOFOLLOW, 0o600, dir_fd=folder)
 
 
 def create(path: str) -> None:

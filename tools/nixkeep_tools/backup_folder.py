@@ -9,6 +9,7 @@ import stat
 import time
 from collections.abc import Callable, Iterable
 
+from . import store_file
 from .failures import Stop, reason
 
 FORM = "%Y-%m-%dT%H-%M-%SZ.db"
@@ -114,7 +115,7 @@ def add(folder: str, make: Callable[[str], object]) -> tuple[str, list[str]]:
 
 
 def read_state(path: str) -> dict:
-    with contextlib.suppress(OSError, ValueError), open(path, encoding="utf-8") as file:
+    with contextlib.suppress(OSError, ValueError), store_file.opened(path) as file:
         found = json.load(file)
         return found if isinstance(found, dict) else {}
     return {}

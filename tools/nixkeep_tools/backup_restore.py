@@ -1,11 +1,13 @@
 """A store put back from a copy: its units are stopped, the timer of copies first, and started again at the end."""
 import argparse
 import contextlib
+import fcntl
 import os
 import shutil
+import stat
 import time
 
-from . import backup_file, backup_folder
+from . import backup_file, store_file
 from .count_of import count_of
 from .failures import Stop, reason
 
@@ -15,6 +17,8 @@ TIMER, COPY, SOCKET, SERVER = UNITS = [
 
 # What the names of folders begin with that have the files of before. While one is there, nixkeep-cache sweeps nothing.
 ASIDE = "aside-"
+# A store's own file, and a copy that doesn't have that name yet.
+STORE, FRESH = "store.db", "store.new"
 
 
 def state_of(unit):
@@ -45,41 +49,89 @@ def stopped(name):
                 set_unit("start", unit[it])
 
 
+@contextlib.contextmanager
+def opened(folder, within=None):
+    """The number of an open folder: whatever gets its name meanwhile, what is done by the number is done there."""
+    number = os.open(folder, os.O_RDONLY | os.O_DIRECTORY | os.O_NOFOLLOW, dir_fd=within)
+    try:
+        yield number
+    finally:
+        os.close(number)
+
+
+def fill(name, folder, source):
+    """Makes a file of what `source` has in an open folder, for the folder's account."""
+    seen = os.fstat(folder)
+    with contextlib.suppress(FileNotFoundError):
+        os.unlink(name, dir_fd=folder)
+    with open(name, "xb", opener=lambda it, flags: backup_file.fresh(it, flags, folder)) as target:
+        shutil.copyfileobj(source, target)
+        target.flush()
+        os.fchown(target.fileno(), seen.st_uid, seen.st_gid)
+        os.fsync(target.fileno())
+
+
 def files_of(folder):
-    return sorted(it for it in os.listdir(folder) if it == "store.db" or it.startswith("store.db-"))
+    return sorted(it for it in os.listdir(folder) if it == STORE or it.startswith(f"{STORE}-"))
+
+
+def is_folder(name, folder):
+    return stat.S_ISDIR(os.lstat(name, dir_fd=folder).st_mode)
+
+
+def link(folder, aside):
+    """Gives the files of a store further names in another folder; both are open. If that fails they have none: nixkeep
+    refuses a file with two."""
+    try:
+        for it in files_of(folder):
+            if not is_folder(it, folder):
+                os.link(it, it, src_dir_fd=folder, dst_dir_fd=aside, follow_symlinks=False)
+        os.fsync(aside)
+    except OSError:
+        for it in os.listdir(aside):
+            os.unlink(it, dir_fd=aside)
+        raise
 
 
 def move_aside(folder, aside):
     """Moves the files of a store into another folder, but for the name of `store.db`, which the copy takes over: if the
-    machine stops before that, no server begins a new store there."""
+    machine stops before that, no server begins a new store there, and none opens the file, which has two names."""
+    link(folder, aside)
     for it in files_of(folder):
-        os.link(f"{folder}/{it}", f"{aside}/{it}", follow_symlinks=False)
-    backup_folder.sync(aside)
-    for it in files_of(folder):
-        if it != "store.db":
-            os.unlink(f"{folder}/{it}")
+        if is_folder(it, folder):
+            os.rename(it, it, src_dir_fd=folder, dst_dir_fd=aside)
+        elif it != STORE:
+            os.unlink(it, dir_fd=folder)
 
 
 def put(copy: str, folder: str) -> str:
     """Puts a copy in the place of a store, whose files are moved into a new folder. Returns that folder's name."""
-    seen = os.stat(folder)
-    fresh, aside = f"{folder}/store.new", f"{folder}/{ASIDE}{time.strftime('%Y-%m-%dT%H-%M-%SZ', time.gmtime())}"
-    with contextlib.suppress(FileNotFoundError):
-        os.unlink(fresh)
     try:
-        # (opened once: nobody can put a link in its place)
-        with open(copy, "rb") as source, open(fresh, "xb", opener=backup_file.fresh) as target:
-            shutil.copyfileobj(source, target)
-            os.fchown(target.fileno(), seen.st_uid, seen.st_gid)
-        backup_folder.sync(fresh)
-        os.mkdir(aside, 0o700)
-        move_aside(folder, aside)
-        os.rename(fresh, f"{folder}/store.db")
-        backup_folder.sync(folder)
+        # (the copy is opened once: nobody can put a link in its place)
+        with opened(folder) as here, store_file.opened(copy) as source:
+            fcntl.flock(here, fcntl.LOCK_EX | fcntl.LOCK_NB)
+            return f"{folder}/{put_from(source, here)}"
+    except BlockingIOError:
+        raise Stop(f"failed: restore: {folder}: another restore is running") from None
     except OSError as error:
+        raise Stop(f"failed: restore: {os.path.join(folder, error.filename or '')}: {reason(error)}") from None
+
+
+def put_from(source, folder):
+    """Puts a copy, which is open, into the open folder of a store. Returns the name of the folder of what was there."""
+    aside = f"{ASIDE}{time.strftime('%Y-%m-%dT%H-%M-%SZ', time.gmtime())}"
+    try:
+        fill(FRESH, folder, source)
+        os.mkdir(aside, 0o700, dir_fd=folder)
+        with opened(aside, folder) as moved:
+            move_aside(folder, moved)
+        os.rename(FRESH, STORE, src_dir_fd=folder, dst_dir_fd=folder)
+        os.fsync(folder)
+    except OSError:
         with contextlib.suppress(OSError):
-            os.unlink(fresh)
-        raise Stop(f"failed: restore: {error.filename or folder}: {reason(error)}") from None
+            os.unlink(FRESH, dir_fd=folder)
+            os.rmdir(aside, dir_fd=folder)
+        raise
     return aside
 
 

@@ -25,6 +25,14 @@ def program_near(file: str) -> str:
     return next((it for it in near if os.access(it, os.X_OK)), shutil.which("nixkeep") or "nixkeep")
 
 
+def identity(program: str) -> tuple | None:
+    """What changes where another file takes the name of a program; None where there is none."""
+    with contextlib.suppress(OSError):
+        seen = os.stat(shutil.which(program) or program)
+        return seen.st_dev, seen.st_ino, seen.st_size, seen.st_mtime_ns
+    return None
+
+
 class Refused(Exception):
     """The server ended before it ever answered, with the status of a refusal."""
 
@@ -40,6 +48,7 @@ class Child:
 
     def __init__(self, program: str, file: str, config: str | None):
         self.words = [program, *(["--config", config] if config else []), "--db", file, "serve"]
+        self.identity = identity(program)
         self.process, self.handle, self.running, self.why, self.refused = None, None, None, "it starts", 0
         # The process that answers, as soon as there is one.
         self.ready = None
@@ -64,11 +73,19 @@ class Child:
             if status in REFUSED and not has_answered:
                 self.refused = status
                 return self.ready.set_exception(Refused(status))
+            self.refuse_another()
             delay = 0 if now() - began > WELL else min(MOST, max(LEAST, 2 * delay))
             self.why = f"it ended with status {status}"
             print(f"nixkeep-cache: the server ended with status {status}; the next start is in {delay:g} s",
                   file=sys.stderr, flush=True)
             await asyncio.sleep(delay)
+
+    def refuse_another(self) -> None:
+        """Ends this process if the program was replaced, as by an upgrade that has restarted nothing: another one may
+        migrate the file, and what starts this process makes a copy of it before."""
+        if self.identity != identity(self.words[0]):
+            sys.exit(f"nixkeep-cache: the server has ended, and {self.words[0]} is another program by now: "
+                     "start this again")
 
     async def serve(self) -> tuple[int, bool]:
         """Starts a server, and waits for its end. Returns its status, and whether it has answered."""

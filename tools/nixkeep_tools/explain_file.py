@@ -4,12 +4,16 @@ import contextlib
 # (os.path, not Path: the caller may not be allowed to look at a file, and a link may lead to itself)
 import os
 import stat
+import struct
 
 from . import store_file
 
 # Why nixkeep refuses a file. `is_readable` says whether its rows can be examined all the same.
 Reason = collections.namedtuple("Reason", "text is_readable")
 HEAD = b"SQLite format 3\0"
+# How a journal begins, and ends where it names another file.
+JOURNAL = bytes.fromhex("d9d505f920a163d7")
+LONGEST_NAME = 4_096
 # How much of a command line is shown.
 LONGEST = 300
 
@@ -60,7 +64,21 @@ def of_log(path):
         return [] if os.access(folder, os.W_OK) else [Reason(f"this user may make no log in the folder {folder}", True)]
     if os.path.islink(log) or not os.path.isfile(log):
         return [Reason(f"its log {log} is a link, a folder or a device, and no file", False)]
-    return of_file(log, f"its log {log}")
+    return [*of_file(log, f"its log {log}"), *of_pages(path, log)]
+
+
+def of_pages(path, log):
+    """A log for pages of another size belongs to another file, if it has a frame. SQLite may pass over it."""
+    try:
+        with store_file.opened(path) as file, store_file.opened(log) as data:
+            own, head, more = file.read(18), data.read(32), data.read(24)
+    except OSError:
+        return []
+    size, of_log = int.from_bytes(own[16:18], "big"), int.from_bytes(head[8:12], "big")
+    size = 65_536 if size == 1 else size
+    if len(more) < 24 or own[:16] != HEAD or not store_file.is_log_head(head) or of_log == size:
+        return []
+    return [Reason(f"its log {log} has pages of {of_log} bytes, and the file has others", True)]
 
 
 def of_journal(path):
@@ -70,11 +88,22 @@ def of_journal(path):
         return []
     if os.path.islink(journal) or not os.path.isfile(journal):
         return [Reason(f"{journal} is a link, a folder or a device, and no journal", False)]
-    with open(journal, "rb") as file:
+    with store_file.opened(journal) as file:
         if file.read(1) in (b"", b"\0"):
             return []
+        named = named_by(file)
     text = f"another program stopped in a change, and left {journal}: sqlite3 undoes the change when it opens the file"
-    return [Reason(text, False)]
+    return [Reason(f"{text}, and deletes {named}, which the journal names" if named else text, False)]
+
+
+def named_by(journal):
+    """The file that a journal names at its end, or None. SQLite deletes it, whichever it is, once the change is undone:
+    if the change was one of several databases, it has the names of their journals."""
+    size = os.fstat(journal.fileno()).st_size
+    length, end = struct.unpack(">I4x8s", os.pread(journal.fileno(), 16, max(0, size - 16)).rjust(16, b"\0"))
+    if end != JOURNAL or not 0 < length <= min(LONGEST_NAME, size - 16):
+        return None
+    return os.fsdecode(os.pread(journal.fileno(), length, size - 16 - length))
 
 
 def unreadable(path: str, error: Exception) -> str:

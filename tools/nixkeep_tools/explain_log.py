@@ -1,5 +1,7 @@
 """What of a log SQLite, and so nixkeep, doesn't take: the frames after the last commit whose sums are right."""
 import collections
+import contextlib
+import os
 from pathlib import Path
 
 from . import store_file
@@ -10,13 +12,16 @@ HEAD, BEFORE_PAGE = 32, 24
 Ignored = collections.namedtuple("Ignored", "frames commits")
 
 
-def frames(log):
-    """The salt of a log, and for each whole frame its salt and whether it ends a commit."""
-    head = log.read(HEAD)
-    size, found = int.from_bytes(head[8:12], "big"), []
-    while len(frame := log.read(BEFORE_PAGE + size)) == BEFORE_PAGE + size:
-        found.append((frame[8:16], frame[4:8] != bytes(4)))
-    return head[16:24], found
+def frames(log, used):
+    """Yields for each whole frame of a log after the first `used` ones whether it has the log's salt, and whether it
+    ends a commit. A page isn't read, and no frame is kept: a log may be as long as its writer likes."""
+    head, size = os.pread(log.fileno(), HEAD, 0), os.fstat(log.fileno()).st_size
+    if not (page := store_file.page_of_log(head)):
+        return
+    step = BEFORE_PAGE + page
+    for at in range(HEAD + used * step, size - step + 1, step):
+        frame = os.pread(log.fileno(), BEFORE_PAGE, at)
+        yield frame[8:16] == head[16:24], frame[4:8] != bytes(4)
 
 
 def ignored(path):
@@ -26,24 +31,23 @@ def ignored(path):
     count only if a frame of the log's own salt follows.
     """
     used = max((count for _, _, count in store_file.commits(path)), default=0)
-    try:
-        with open(store_file.log_of(path), "rb") as log:
-            salt, found = frames(log)
-    except OSError:
-        return Ignored(0, 0)
-    last = max((at for at, (it, _) in enumerate(found, 1) if it == salt), default=0)
-    left = found[used:last]
-    return Ignored(len(left), sum(is_commit for _, is_commit in left))
+    count = commits = 0
+    left = Ignored(0, 0)
+    with contextlib.suppress(OSError), store_file.opened(store_file.log_of(path)) as log:
+        for is_own, is_commit in frames(log, used):
+            count, commits = count + 1, commits + is_commit
+            left = Ignored(count, commits) if is_own else left
+    return left
 
 
 def has_bad_head(path):
     """Whether a log that isn't empty begins with something else than the head of a log."""
     try:
-        with open(store_file.log_of(path), "rb") as log:
+        with store_file.opened(store_file.log_of(path)) as log:
             head = log.read(HEAD)
     except OSError:
         return False
-    return len(head) == HEAD and any(head) and not store_file.is_log_head(head)
+    return len(head) == HEAD and any(head) and not store_file.page_of_log(head)
 
 
 def line(path: str) -> tuple[str | None, bool]:

@@ -109,18 +109,18 @@ class Reply:
             if left:
                 raise self.server.gone(f"the connection ended {left} bytes before the end of the answer")
 
-    def bounded(self) -> Iterator[bytes]:
-        """Yields the bytes of a text that is read whole. Raises Stop for one that doesn't end."""
+    def bounded(self, most: int = MOST_OF_REPLY) -> Iterator[bytes]:
+        """Yields the bytes of a text that is read whole. Raises Stop for one that has more than `most`, or no end."""
         size = 0
         for part in self.parts():
             size += len(part)
-            if size > MOST_OF_REPLY:
-                raise Stop(f"failed: answer: {self.server.place.url}: it has more than {MOST_OF_REPLY} bytes")
+            if size > most:
+                raise Stop(f"failed: answer: {self.server.place.url}: it has more than {most} bytes")
             yield part
 
-    def text(self) -> str:
-        """The text whole."""
-        return b"".join(self.bounded()).decode("utf-8", "backslashreplace")
+    def text(self, most: int = MOST_OF_REPLY) -> str:
+        """The text whole, of `most` bytes."""
+        return b"".join(self.bounded(most)).decode("utf-8", "backslashreplace")
 
     def refusal(self) -> int | None:
         """The number of the refusal, or None."""

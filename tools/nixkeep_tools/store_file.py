@@ -10,12 +10,14 @@ All sizes are bytes of archives, as in `nixkeep report`. Paths are base names.
 """
 import collections
 import contextlib
+import errno
 import fcntl
 import functools
 import hashlib
 import operator
 import os
 import sqlite3
+import stat
 import struct
 import sys
 import urllib.parse
@@ -72,6 +74,15 @@ class Locked(OSError):
         self.path, self.pid = path, pid
 
 
+def opened(path: str) -> BinaryIO:
+    """A file that is open for reading. Raises OSError for what is no file: a pipe would be waited for."""
+    file = open(path, "rb", opener=lambda it, flags: os.open(it, flags | os.O_NONBLOCK))
+    if stat.S_ISREG(os.fstat(file.fileno()).st_mode):
+        return file
+    file.close()
+    raise OSError(errno.EINVAL, "it is no file", path)
+
+
 def locker(file: BinaryIO) -> int | None:
     """The number of the process whose lock keeps nixkeep from an open file, or None if there is no lock.
 
@@ -118,6 +129,12 @@ def is_log_head(head: bytes) -> bool:
     return order is not None and len(head) == 32 and _sum(head[:24], order, 0, 0) == struct.unpack(">2I", head[24:])
 
 
+def page_of_log(head: bytes) -> int | None:
+    """The bytes of a page in a log that begins with these 32 bytes; None if SQLite takes nothing from it."""
+    size = int.from_bytes(head[8:12], "big")
+    return size if is_log_head(head) and 512 <= size <= 65_536 and not size & size - 1 else None
+
+
 def commits(path: str) -> Iterator[tuple[bytes | None, int, int]]:
     """Yields the commits that SQLite takes from the log of a file.
 
@@ -125,14 +142,14 @@ def commits(path: str) -> Iterator[tuple[bytes | None, int, int]]:
     frames of the log up to there.
     """
     try:
-        log = open(log_of(path), "rb")
+        log = opened(log_of(path))
     except OSError:
         return
     with log:
         head, first = log.read(32), None
-        if not is_log_head(head):
+        if not (size := page_of_log(head)):
             return
-        order, size = LOG_ORDERS[head[:4]], struct.unpack(">I", head[8:12])[0]
+        order = LOG_ORDERS[head[:4]]
         so_far = struct.unpack(">2I", head[24:])
         count = 0
         while len(frame := log.read(24 + size)) == 24 + size:
@@ -177,7 +194,7 @@ def open_store(path: str, despite_lock: bool = False) -> Iterator[sqlite3.Connec
 
     With `despite_lock` a locked file is read all the same. Its rows may be torn if `stamps` changes meanwhile.
     """
-    with open(path, "rb") as file:
+    with opened(path) as file:
         pid = locker(file)
         if pid is not None and not despite_lock:
             raise Locked(path, pid)
