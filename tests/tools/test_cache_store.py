@@ -230,9 +230,16 @@ def test_the_limit_by_memory(folder, monkeypatch):
         assert store_size.memory() == 1 << 30, f"the least limit counts: {own}"
     Path(f"{folder}/cgroup/memory.max").unlink()
     Path(f"{folder}/own").write_text("0::/system.slice/store.service\n")
-    had = [3 << 29]
-    limit = cache_limit.Limit(None, None, lambda: had[0])
+    had, own = [3 << 29], [0]
+    limit = cache_limit.Limit(None, None, lambda: had[0], lambda: own[0])
     limit.check(1)
+    own[0] = 107_374_182
+    limit.check(1)
+    own[0] += 1
+    line = "failed: full the server and nixkeep-cache have 1717986919 of 2147483648 bytes of memory: drop roots, "
+    with pytest.raises(cache_limit.Full, match=f"^{line}collect, and start it again\n$"):
+        limit.check(1)
+    own[0] = 0
     had[0] += 1
     line = "failed: full the server has 1610612737 of 2147483648 bytes of memory: drop roots, collect, and start it"
     with pytest.raises(cache_limit.Full, match=f"^{line} again\n$"):
@@ -254,6 +261,8 @@ def test_the_memory_of_a_server(program, folder):
 
     before, (had, shown), after = asyncio.run(run())
     assert before is after is None and 0.8 < had / (1024 * shown) < 1.2
+    shown = int(re.search(r"VmRSS:\s+(\d+)", Path("/proc/self/status").read_text())[1])
+    assert 0.8 < store_size.resident() / (1024 * shown) < 1.2, "that of nixkeep-cache, too"
 
 
 def test_sessions(unit, folder):

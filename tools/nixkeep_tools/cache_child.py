@@ -7,6 +7,7 @@ import signal
 import sys
 from pathlib import Path
 
+from . import store_size
 from .cache_server import AHEAD, BROKEN, Caller, Request, message, read_reply
 
 # A server that has run for WELL seconds is started again at once. Else the delay in seconds is LEAST, and each time
@@ -100,8 +101,7 @@ class Child:
     def memory(self) -> int | None:
         """The bytes of memory that the server has, or None where it doesn't run."""
         with contextlib.suppress(OSError, AttributeError, ValueError):
-            with open(f"/proc/{self.process.pid}/statm", encoding="ascii") as file:
-                return int(file.read().split()[1]) * os.sysconf("SC_PAGE_SIZE")
+            return store_size.resident(self.process.pid)
         return None
 
     def signal(self, number: int) -> None:
