@@ -2,12 +2,13 @@
 import hashlib
 import itertools
 import time
+import types
 
 import pytest
 
 from nixkeep_dev.build.program import HERE
 from nixkeep_dev.testing import nar
-from nixkeep_tools import blob_reading, blobs, http_client, objects, paths, pointers
+from nixkeep_tools import blob_reading, blobs, http_client, objects, paths, pointers, real_nix
 from nixkeep_tools.failures import Stop
 from tests.tools import replies
 from tests.tools.servers import answering, ran
@@ -73,6 +74,21 @@ def test_records_of_a_closure(what, monkeypatch):
             stops(closure, line)
         else:
             assert base(0) in repr(closure())
+
+
+def test_a_large_archive_goes_to_nix_in_pieces():
+    """A server says how large it is, so it may have no end. No more than a piece of it is in memory."""
+    nix, written = real_nix.Nix.__new__(real_nix.Nix), []
+    nix.folder, stdin = "/nix/store", types.SimpleNamespace(write=written.append, flush=lambda: None)
+    nix.process, nix.number, nix.valid = types.SimpleNamespace(stdin=stdin), lambda: 1, lambda _: set()
+
+    def pieces():
+        for at in range(3):
+            yield b"piece %d" % at
+            assert written[-1] == b"piece %d" % at, "it is sent before the next one comes"
+
+    assert nix.put(objects.read_record(record(base(0), size=1 << 60).decode()), b"", pieces)
+    assert written[-3:] == [b"piece %d" % at for at in range(3)]
 
 
 def test_replies(monkeypatch):
