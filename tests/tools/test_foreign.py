@@ -55,6 +55,8 @@ RECORDS = {
                      f"more than {OBJECTS} objects"),
     "more references than an object may have": (lambda it: record(it, map(base, range(objects.REFERENCES + 1))),
                                                 "isn't the record"),
+    "the same one again and again": (lambda it: record(it, [base(int(it[BEFORE:]) + 1)] * 4000),
+                                     "more than 20000 references"),
     "a size of 30 digits": (lambda it: record(it, size="9" * 30), "isn't the record"),
     "a size below none": (lambda it: record(it, size=-1), "isn't the record"),
     "a deriver that is no path": (lambda it: record(it, more="Deriver: ../../x\n"), "isn't the record"),
@@ -67,6 +69,7 @@ RECORDS = {
 def test_records_of_a_closure(what, monkeypatch):
     """References without an end, records of other sizes and names than a store has."""
     monkeypatch.setattr(objects, "CLOSURE", OBJECTS)
+    monkeypatch.setattr(objects, "LINKS", 20_000)
     made, line = RECORDS[what]
     with answering(lambda method, target, _: text(200, made(target[6:]) if method == "GET" else b"done\n")) as url:
         closure = lambda: store(url).closure([base(0)])
