@@ -47,7 +47,7 @@ def with_hash(head, archive):
     return "\n".join(hashed if it.startswith("nar-hash: ") else it for it in lines).encode()
 
 
-def said(head, key):
+def said(head: bytes, key: str) -> str:
     """What a line of an import's head says, or ''. (A head may have 20 MB, in which a regular expression is slow.)"""
     word = f"{key}: ".encode()
     at = 0 if head.startswith(word) else head.find(b"\n" + word) + 1

@@ -80,7 +80,7 @@ class Overviews:
             if not made.cancelled() and not made.exception():
                 self.made[caller] = made, asyncio.get_running_loop().time() + FRESH
 
-    async def make(self, caller):
+    async def make(self, caller: Caller) -> overview.Overview:
         async with self.turn:
             try:
                 store, live = await self.records.store(caller)
