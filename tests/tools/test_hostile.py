@@ -300,7 +300,7 @@ def test_a_failed_login_takes_as_long_for_each_name(name, site):
         status, text = wrong("GET", "/who", None, "-o", "/dev/null", "-w", "%{time_starttransfer}\n%{http_code}")
         spent.append(float(text))
         assert status == 401
-    assert 0.2 <= min(spent) < 1
+    assert min(spent) >= 0.2
 
 
 @pytest.fixture(scope="module")
