@@ -2,6 +2,7 @@
 import asyncio
 import contextlib
 import fcntl
+import gc
 import os
 import random
 import re
@@ -263,6 +264,29 @@ def test_the_memory_of_a_server(program, folder):
     assert before is after is None and 0.8 < had / (1024 * shown) < 1.2
     shown = int(re.search(r"VmRSS:\s+(\d+)", Path("/proc/self/status").read_text())[1])
     assert 0.8 < store_size.resident() / (1024 * shown) < 1.2, "that of nixkeep-cache, too"
+
+
+def test_a_server_that_is_killed_while_it_is_written_to(folder):
+    """It is a line, and no trace of a write that nobody waits for."""
+    program, faults = Path(folder, "program"), []
+    head = r"HTTP/1.1 404 x\r\ncontent-type: x\r\ncontent-length: 0\r\n\r\n"
+    program.write_text(f"#!/bin/sh\nread it\nprintf '{head}'\nexec sleep 100\n")
+    program.chmod(0o755)
+
+    async def run():
+        asyncio.get_running_loop().set_exception_handler(lambda _, about: faults.append(about))
+        child = cache_child.Child(str(program), "none", None)
+        _, writer = await child.open()
+        writer.write(bytes(5_000_000))
+        child.signal(signal.SIGKILL)
+        while not writer.transport.is_closing():
+            await asyncio.sleep(0.01)
+        await asyncio.sleep(0.1)
+        await child.end()
+
+    asyncio.run(run())
+    gc.collect()
+    assert faults == []
 
 
 def test_sessions(unit, folder):

@@ -86,6 +86,10 @@ class Child:
             answers = bool(await read_reply(self.process.stdout))
             self.ready.set_result(self.process)
         status = await self.process.wait()
+        with contextlib.suppress(*BROKEN):
+            # (else asyncio prints a trace of what was being written to a server that was killed)
+            async with asyncio.timeout(1):
+                await self.process.stdin.wait_closed()
         if self.handle is not None:
             os.close(self.handle)
             self.handle = None
