@@ -1,5 +1,5 @@
-"""What `try` tests of fail2ban, as Debian has it and with the two files of `fail2ban`: it finds the logins that failed,
-and addresses that guess passwords get no connection."""
+"""What `try` tests of fail2ban, as Debian has it and with the three files of `fail2ban`: it finds the logins that
+failed, and addresses that guess passwords get no connection, nor do others of their network by IPv6."""
 import os
 import re
 import shutil
@@ -19,11 +19,20 @@ LINES = """fail2ban-server -c conf -s "$PWD/socket" -p "$PWD/pid" --logtarget "$
 cat lines >>nixkeep.log
 for _ in $(seq 200); do
   rules=$(nft list ruleset)
-  case $rules in *10.9.8.7*fd09::7*) break ;; esac
+  case $rules in *10.9.8.7*fd09:0:0:7::*) break ;; esac
   sleep 0.3
 done
 echo "$rules"
+ip link set lo up && python3 -c "$CONNECTING"
 fail2ban-client -c conf -s "$PWD/socket" stop >/dev/null"""
+# Connects to a server from three addresses, the first two of a network that is blocked, and prints which are answered.
+CONNECTING = """import socket, subprocess
+with socket.create_server(("::1", 443), family=socket.AF_INET6):
+    for it in ("fd09:0:0:7::1", "fd09:0:0:7:1:2:3:4", "fd09:0:0:8::1"):
+        subprocess.run(["ip", "addr", "add", it + "/128", "dev", "lo", "nodad"], check=True)
+        with socket.socket(socket.AF_INET6) as client:
+            client.bind((it, 0))
+            print("from", it, client.connect_ex(("::1", 443)) == 0)"""
 
 
 def counted(file: str, count: int) -> None:
@@ -45,19 +54,24 @@ def banned(site: Any, line: str) -> None:
         return parts.skip("fail2ban's bans: there is no fail2ban of Debian's, or no network namespace")
     os.makedirs(folder := f"{site.folder}/banned")
     shutil.copytree(DEBIANS, f"{folder}/conf")
-    shutil.copy(f"{parts.HERE}/fail2ban/filter.conf", f"{folder}/conf/filter.d/nixkeep.conf")
+    for it in ("filter", "action"):
+        shutil.copy(f"{parts.HERE}/fail2ban/{it}.conf", f"{folder}/conf/{it}.d/nixkeep.conf")
     jail = Path(f"{parts.HERE}/fail2ban/jail.conf").read_text()
     Path(f"{folder}/conf/jail.d/nixkeep.conf").write_text(jail.replace("/var/log/nginx", folder))
     Path(f"{folder}/conf/fail2ban.local").write_text("[Definition]\ndbfile = None\n")
     Path(f"{folder}/nixkeep.log").touch()
     now = time.strftime("%Y-%m-%dT%H:%M:%S+00:00", time.gmtime())
     line = re.sub(r'"time":"[^"]*"', f'"time":"{now}"', line)
-    came = [("10.9.8.7", 10), ("fd09::7", 10), ("10.9.8.6", 9)]
-    text = "".join(re.sub(r'"client":"[^"]*"', f'"client":"{it}"', line) * count for it, count in came)
+    came = [("10.9.8.7", 10), ("fd09:0:0:7::", 10), ("10.9.8.6", 9), ("fd09:0:0:8::", 9)]
+    text = "".join(re.sub(r'"network":"[^"]*"', f'"network":"{it}"', line) * count for it, count in came)
     Path(f"{folder}/lines").write_text(text)
-    ran = subprocess.run([*ALONE, "sh", "-c", LINES], cwd=folder, capture_output=True, text=True)
+    ran = subprocess.run([*ALONE, "sh", "-c", LINES], cwd=folder, capture_output=True, text=True,
+                         env={**os.environ, "CONNECTING": CONNECTING})
     log = Path(f"{folder}/said").read_text() if Path(f"{folder}/said").exists() else ""
-    refused = re.findall(r"tcp dport 443 ip6? saddr @(\S+) reject", ran.stdout)
+    refused = re.findall(r"tcp dport 443 ip6? saddr (?:& ffff:ffff:ffff:ffff:: == )?@(\S+) reject", ran.stdout)
     check("two addresses that guess passwords get no connection", len(refused) == 2 and
           all(it in ran.stdout for it, count in came if count == 10), ran.stdout + ran.stderr + log)
-    same("and no other address is blocked", "10.9.8.6" in ran.stdout, False)
+    same("and no other address is blocked", re.findall(r"10\.9\.8\.6|fd09:0:0:8::[ ,]", ran.stdout), [])
+    if not parts.skipped("connections from a network that is blocked", "ip"):
+        same("by IPv6 it is a network that gets no connection", re.findall(r"^from (\S+) (\S+)$", ran.stdout, re.M),
+             [("fd09:0:0:7::1", "False"), ("fd09:0:0:7:1:2:3:4", "False"), ("fd09:0:0:8::1", "True")])

@@ -131,6 +131,12 @@ def subjects(site: Any) -> None:
         openssl(f"req -newkey rsa:2048 -nodes -utf8 -multivalue-rdn -subj '{subject}' -keyout odd.key -out odd.csr")
         openssl("x509 -req -in odd.csr -CA ca.pem -CAkey ca.key -CAcreateserial -days 1 -out odd.pem")
         same(f"the subject {subject} is nobody's", site.user("build", certificate="odd")("GET", "/paths")[0], 401)
+    openssl("req -newkey rsa:2048 -nodes -subj /O=red/CN=build -keyout odd.key -out odd.csr")
+    openssl("x509 -req -in odd.csr -CA carol.pem -CAkey carol.key -CAcreateserial -days 1 -out signed.pem")
+    chain = "".join(Path(f"{folder}/{it}.pem").read_text() for it in ("signed", "carol"))
+    Path(f"{folder}/odd.pem").write_text(chain)
+    same("what a user's certificate has signed is nobody's",
+         site.user("build", certificate="odd")("GET", "/paths")[0], 400)
     carol = site.user("carol", certificate="carol")
     asked = lambda host: carol("GET", "/paths", None, "-H", f"host: {host}")[0]
     same("a name of another team within a connection", asked("green.localhost"), 421)

@@ -22,6 +22,8 @@ def program(asked):
 
     def answer(method, target, fields):
         asked.append((method, target, {key.lower(): it for key, it in fields.items()}))
+        if target == "/oauth2/callback":
+            return 302, "text/plain", b"", ("location", "/"), ("set-cookie", f"session={'x' * 8000}")
         if target != "/oauth2/auth":
             return 401 if method == "POST" else 200, "text/plain", b"a page\n"
         words = base64.b64decode(fields.get("authorization", "").partition(" ")[2] or b"").decode("latin-1")

@@ -122,6 +122,15 @@ def test_an_archive(site, path):
     assert [kept(f'"{DIGEST}"'), kept('"other"')] == [304, 200], "a cache that has it is told so"
 
 
+def test_what_others_may_keep(site, path):
+    """nginx keeps records and archives for a minute, and no cache of others on the way to a client keeps them: who gets
+    them has logged in."""
+    for target in ("/nix-cache-info", f"/{path[11:43]}.narinfo", f"/nar/{DIGEST}/{path[11:]}"):
+        head = site.ann("HEAD", target)[1].lower()
+        assert re.findall(rb"^cache-control: (.*)\r", head, re.M) == [b"max-age=60"], target
+    assert b"\ncache-control: no-store\r" in site.ann("HEAD", "/paths")[1].lower()
+
+
 def test_strangers(site, path):
     eve, denied = site.eve, (403, b"denied: connect\n")
     for target in ("/nix-cache-info", f"/{path[11:43]}.narinfo", f"/nar/{path[11:]}", f"/{NOWHERE}.narinfo", "/paths"):
@@ -263,6 +272,7 @@ REFUSALS = {
     "a record of another store": (put_record(record("/gnu/" + PATH[5:], ARCHIVE, NEVER)), b"/nix/store"),
     "a record that leaves its folder": (put_record(record(PATH, ARCHIVE, "../../etc/passwd")), b"nar/FILE is meant"),
     "a record without a path": (put_record(b"URL: nar/a\n"), b"no StorePath"),
+    "a record of many lines": (put_record(b"a:\n" * 10_001), b"at most 10000 lines"),
     "anything else that is put": (put("/nix-cache-info", b"StoreDir: /nix/store\n"), b"only records and archives"),
     "an archive with another hash": (upload(("NarHash", f"sha256:{'0' * 52}")), b"25 nar-hash-mismatch"),
     "a reference that isn't there": (upload(("References", f"{NOWHERE}-a")), b"24 missing-reference"),
@@ -274,6 +284,15 @@ def test_what_is_refused(what, site):
     work, word = REFUSALS[what]
     status, text = work(site.build)
     assert status == 400 and word in text
+
+
+def test_lines_of_a_record():
+    """They end where Nix ends them, and nowhere else."""
+    from nixkeep_tools import cache_records
+
+    text = b"StorePath: a\r\nURL: b\x0cURL: c\x1cURL: d\rURL: e\nNarHash: f\n\nSig: g\nno line\n"
+    assert cache_records.fields(text) == {"StorePath": "a", "URL": "b\x0cURL: c\x1cURL: d\rURL: e", "NarHash": "f",
+                                          "Sig": "g"}
 
 
 # ---- bounds, and many clients

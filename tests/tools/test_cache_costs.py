@@ -4,6 +4,7 @@ import contextlib
 import io
 import lzma
 import random
+import re
 import socket
 import sqlite3
 import subprocess
@@ -16,8 +17,9 @@ import pytest
 import parts
 from nixkeep_dev.testing import nar
 from nixkeep_tools import blob_packing, cache_ending, cache_large, cache_records, cache_shares, cache_sweep, drv
-from nixkeep_tools import cache_http, cache_limit, cache_listings, cache_metrics, cache_server, cache_watched
-from nixkeep_tools import overview_day, overview_source, store_file
+from nixkeep_tools import cache_changes, cache_http, cache_limit, cache_listings, cache_metrics, cache_names
+from nixkeep_tools import cache_overview, cache_passing, cache_room, cache_server, cache_watched, overview_day
+from nixkeep_tools import overview_source, store_file
 from parts import body
 from tests.tools.cached import ask
 
@@ -97,6 +99,148 @@ def test_long_records_hold_up_nobody_else(unit):
         for it in tasks:
             it.join()
     assert {*replies} == {b"HTTP/1.1 400 Bad Request"}, "all of them are answered"
+
+
+def test_unknown_records_cause_one_listing():
+    """All who ask for unknown paths at once, as after a restart, wait for one listing of all paths."""
+    asked, replies = [], []
+
+    class Server:
+        connections = 1
+
+        async def ask(self, *request):
+            asked.append(request)
+            await asyncio.sleep(0.01)
+            return cache_server.Reply(*replies.pop())
+
+    async def run(every, count):
+        names = cache_names.Names(Server(), every)
+        for _ in range(count):
+            found = await asyncio.gather(*(names.base(cache_server.Caller(it, None), f"{1:032}") for it in "abcdefgh"))
+        return found
+
+    replies += [(200, "text/plain", f"/nix/store/{1:032}-x\n".encode())]
+    assert asyncio.run(run(30, 3)) == [(f"{1:032}-x", None)] * 8 and len(asked) == 1, "one that is there"
+    replies += [(200, "text/plain", b"")]
+    assert asyncio.run(run(30, 3)) == [(None, None)] * 8 and len(asked) == 2, "one that isn't"
+    replies += [(200, "text/plain", b"")] * 3
+    assert asyncio.run(run(0, 3)) == [(None, None)] * 8 and len(asked) == 5, "each time when it is old"
+    replies += [(200, "text/plain", b""), (503, "text/plain", b"failed: memory\n")]
+    assert asyncio.run(run(30, 2)) == [(None, None)] * 8, "one that fails is tried again"
+    assert len(asked) == 7
+
+
+def test_listings_of_all_paths_are_made_one_at_a_time():
+    """Each may have hundreds of MB. So the next one is made once there is room for the last one, and is it alone that
+    waits for its own."""
+    asked, sending = [], cache_http.Sending(1_000_000, 60)
+
+    class Server:
+        async def ask(self, caller, *_):
+            asked.append(caller.user)
+            return cache_server.Reply(200, "text/plain", bytes(900_000))
+
+    class Listed(dict):
+        raw_path, method = "/paths", "GET"
+        transport = types.SimpleNamespace(is_closing=lambda: False, abort=lambda: None)
+
+    async def run():
+        passing = cache_passing.Passing(Server(), None, None, None, None, sending, [], 60)
+        callers = [cache_server.Caller(it, None) for it in ["ann"] * 5 + ["bob"]]
+        requests, counts = [Listed(caller=it) for it in callers], []
+        replies = [asyncio.ensure_future(passing.replied(it, cache_server.Request(it["caller"], "GET", "/paths")))
+                   for it in requests]
+        for _ in range(3):
+            await asyncio.sleep(0.05)
+            counts.append((len(asked), sum(it.done() for it in replies)))
+            sending.give(next(it["room"] for it in requests if it.get("room") in sending.held))
+        for it in replies:
+            it.cancel()
+        return counts
+
+    assert asyncio.run(run()) == [(2, 1), (3, 2), (4, 3)]
+    assert asked[:4].count("bob") == 1, "another user is among the first"
+
+
+def test_many_objects(monkeypatch):
+    """The overview of a store with many objects reads none of them."""
+    asked = []
+
+    class Server:
+        connections = 1
+
+        async def ask(self, _, __, target):
+            asked.append(target)
+            return cache_server.Reply(200, "text/plain", b"".join(b"/nix/store/%032d-x\n" % at for at in range(11)))
+
+    monkeypatch.setattr(cache_overview, "OBJECTS", 10)
+    overviews = cache_overview.Overviews(Server(), "/nix/store", (False, True), None, None)
+    text = "the overview of 11 objects takes too much memory: collect"
+    with pytest.raises(cache_http.Answered, match=text) as answered:
+        asyncio.run(overviews.make(cache_server.Caller("ann", None)))
+    assert (answered.value.reply.status, asked) == (503, ["/paths"])
+
+
+def test_what_a_long_body_names_is_looked_for_in_its_first_part():
+    """The record of changes takes no more time for a body of 20 MB than for one of 64 KiB."""
+    class Request(dict):
+        method = "POST"
+
+    request = Request()
+    cache_changes.note(request, b"path: a\n" * 2_500_000)
+    assert len(request["named"]) == 8_192
+    given = b"path: /nix/store/x\nroot: user y\nreference: z\n\npath: no\n"
+    cache_changes.note(request, given, b"/nix/store/a\nfreed 1\n")
+    assert (request["named"], request["changed"]) == ([b"/nix/store/x", b"y"], [b"/nix/store/a"])
+
+
+def test_what_the_head_of_an_import_says():
+    """A head may have 20 MB, so it is read without a regular expression, and as by one."""
+    rng = random.Random(6)
+    for _ in range(2000):
+        words = [b"ca: ", b"path: ", b"\n", b"\n", b" ", b"x", b"\xff", b"ca:", b"\r"]
+        head = b"".join(rng.choices(words, k=rng.randrange(8)))
+        for key in ("ca", "path"):
+            match = re.search(rf"^{key}: (.*)$", head.decode("latin-1"), re.M)
+            assert cache_large.said(head, key) == (match[1] if match else ""), head
+
+
+def test_heads_of_large_imports_have_room(folder):
+    """Who isn't trusted sends no head of a large import, and those of others have a bounded part of the memory."""
+    reading, denied = [], []
+
+    class Request(dict):
+        content_length, method, transport = 30_000_000, "POST", None
+
+        class content:
+            async def readany():
+                reading.append(1)
+                await asyncio.sleep(60)
+
+    async def class_of(_, caller):
+        return ("trusted" if caller.user == "build" else "allowed"), None
+
+    large = cache_large.Large(None, types.SimpleNamespace(server=None), 0, None, "/nix/store")
+
+    async def ask(user):
+        try:
+            await large.import_(Request(caller=cache_server.Caller(user, None)))
+        except cache_http.Answered as answered:
+            denied.append(answered.reply.status)
+
+    async def run():
+        large.passing = types.SimpleNamespace(coming=cache_room.Room(3 * cache_large.HEAD), idle=60)
+        tasks = [asyncio.ensure_future(ask(it)) for it in ["ann"] * 5 + ["build"] * 9]
+        await asyncio.sleep(0.2)
+        for it in tasks:
+            it.cancel()
+
+    kept, cache_large.class_of = cache_large.class_of, class_of
+    try:
+        asyncio.run(run())
+    finally:
+        cache_large.class_of = kept
+    assert (denied, len(reading)) == ([403] * 5, 3)
 
 
 def takes_linear_time(work, sizes=(20_000, 160_000)):
@@ -360,6 +504,56 @@ def test_readers_have_the_memory_in_which_an_archive_is_unpacked(folder):
                 asyncio.run(kept.send(request, pointer, form))
     plain, *others = sorted(found.values())
     assert plain == cache_blobs.HELD and others == [plain, plain + (1 << 20), plain + (32 << 20)]
+
+
+@pytest.mark.needs("python3-zstandard")
+def test_dear_parts_of_archives_leave_some_for_others(folder):
+    """A reply may have one byte from the end of an archive, all of which has to be unpacked for it, or an archive that
+    has to be compressed by xz. A user has two of these at once, and two are left for users who have none."""
+    from nixkeep_tools import blobs_folder, cache_blobs, pointers
+
+    running, most, order = [], [], []
+
+    class Request(dict):
+        method, if_none_match, transport = "GET", None, None
+
+        def __init__(self, user, **headers):
+            super().__init__(caller=cache_server.Caller(user, None))
+            self.headers = headers
+
+    async def streamed(request, *_):
+        user = request["caller"].user
+        running.append(user)
+        dear = [it for it in running if it != "fay"]
+        most.append((dear.count(user), len(dear)))
+        await asyncio.sleep(0.05)
+        running.remove(user)
+        order.append(user)
+
+    async def run():
+        kept = cache_blobs.Blobs(blobs_folder.Folder(f"{folder}/blobs"), 1, None)
+        kept.streamed, pointer = streamed, pointers.Pointer("/nix/store/x", bytes(32), 1 << 30, bytes(32), 1 << 20)
+        large = cache_large.Large(kept, types.SimpleNamespace(server=None, at=at), 0, None, "/nix/store")
+        found.append(pointer)
+        part = {"range": "bytes=-1"}
+        asked = [kept.send(Request("ann", **part), pointer, "none") for _ in range(4)]
+        asked += [large.uploaded(Request("ann"), "x.nar.xz", "x") for _ in range(4)]
+        others = ["bob", "carl", "dora", "eve"]
+        asked += [kept.send(Request(it, **part), pointer, "none") for it in others for _ in range(2)]
+        asked += [kept.send(Request("fay"), pointer, it) for it in ("none", "zstd")]
+        asked += [kept.send(Request("fay", **part), pointer, "zstd") for _ in range(4)]
+        await asyncio.gather(*asked)
+
+    found = []
+
+    async def at(*_):
+        return None, found[0]
+
+    asyncio.run(run())
+    assert [max(it) for it in zip(*most)] == [2, 6], "of one user two at once, and of all six"
+    first = ["ann", "ann", "bob", "bob", "carl", "dora", *["fay"] * 6]
+    assert sorted(order[:12]) == first, "others come before the many of one, and what isn't dear is sent at once"
+    assert len(order) == 22
 
 
 @pytest.mark.needs("python3-zstandard")

@@ -2,6 +2,7 @@
 import asyncio
 import contextlib
 import fcntl
+import gc
 import os
 import random
 import re
@@ -251,9 +252,16 @@ def test_the_limit_by_memory(folder, monkeypatch):
         assert store_size.memory() == 1 << 30, f"the least limit counts: {own}"
     Path(f"{folder}/cgroup/memory.max").unlink()
     Path(f"{folder}/own").write_text("0::/system.slice/store.service\n")
-    had = [3 << 29]
-    limit = cache_limit.Limit(None, None, lambda: had[0])
+    had, own = [3 << 29], [0]
+    limit = cache_limit.Limit(None, None, lambda: had[0], lambda: own[0])
     limit.check(1)
+    own[0] = 107_374_182
+    limit.check(1)
+    own[0] += 1
+    line = "failed: full the server and nixkeep-cache have 1717986919 of 2147483648 bytes of memory: drop roots, "
+    with pytest.raises(cache_limit.Full, match=f"^{line}collect, and start it again\n$"):
+        limit.check(1)
+    own[0] = 0
     had[0] += 1
     line = "failed: full the server has 1610612737 of 2147483648 bytes of memory: drop roots, collect, and start it"
     with pytest.raises(cache_limit.Full, match=f"^{line} again\n$"):
@@ -275,6 +283,31 @@ def test_the_memory_of_a_server(program, folder):
 
     before, (had, shown), after = asyncio.run(run())
     assert before is after is None and 0.8 < had / (1024 * shown) < 1.2
+    shown = int(re.search(r"VmRSS:\s+(\d+)", Path("/proc/self/status").read_text())[1])
+    assert 0.8 < store_size.resident() / (1024 * shown) < 1.2, "that of nixkeep-cache, too"
+
+
+def test_a_server_that_is_killed_while_it_is_written_to(folder):
+    """It is a line, and no trace of a write that nobody waits for."""
+    program, faults = Path(folder, "program"), []
+    head = r"HTTP/1.1 404 x\r\ncontent-type: x\r\ncontent-length: 0\r\n\r\n"
+    program.write_text(f"#!/bin/sh\nread it\nprintf '{head}'\nexec sleep 100\n")
+    program.chmod(0o755)
+
+    async def run():
+        asyncio.get_running_loop().set_exception_handler(lambda _, about: faults.append(about))
+        child = cache_child.Child(str(program), "none", None)
+        _, writer = await child.open()
+        writer.write(bytes(5_000_000))
+        child.signal(signal.SIGKILL)
+        while not writer.transport.is_closing():
+            await asyncio.sleep(0.01)
+        await asyncio.sleep(0.1)
+        await child.end()
+
+    asyncio.run(run())
+    gc.collect()
+    assert faults == []
 
 
 def test_sessions(unit, folder):

@@ -1,12 +1,14 @@
 """Tests the tools with a server and a bucket that answer what no store and no bucket does."""
+import hashlib
 import itertools
 import time
+import types
 
 import pytest
 
 from nixkeep_dev.build.program import HERE
 from nixkeep_dev.testing import nar
-from nixkeep_tools import blobs, http_client, objects
+from nixkeep_tools import blob_reading, blobs, http_client, objects, paths, pointers, real_nix
 from nixkeep_tools.failures import Stop
 from tests.tools import replies
 from tests.tools.servers import answering, ran
@@ -53,6 +55,8 @@ RECORDS = {
                      f"more than {OBJECTS} objects"),
     "more references than an object may have": (lambda it: record(it, map(base, range(objects.REFERENCES + 1))),
                                                 "isn't the record"),
+    "the same one again and again": (lambda it: record(it, [base(int(it[BEFORE:]) + 1)] * 4000),
+                                     "more than 20000 references"),
     "a size of 30 digits": (lambda it: record(it, size="9" * 30), "isn't the record"),
     "a size below none": (lambda it: record(it, size=-1), "isn't the record"),
     "a deriver that is no path": (lambda it: record(it, more="Deriver: ../../x\n"), "isn't the record"),
@@ -65,6 +69,7 @@ RECORDS = {
 def test_records_of_a_closure(what, monkeypatch):
     """References without an end, records of other sizes and names than a store has."""
     monkeypatch.setattr(objects, "CLOSURE", OBJECTS)
+    monkeypatch.setattr(objects, "LINKS", 20_000)
     made, line = RECORDS[what]
     with answering(lambda method, target, _: text(200, made(target[6:]) if method == "GET" else b"done\n")) as url:
         closure = lambda: store(url).closure([base(0)])
@@ -72,6 +77,21 @@ def test_records_of_a_closure(what, monkeypatch):
             stops(closure, line)
         else:
             assert base(0) in repr(closure())
+
+
+def test_a_large_archive_goes_to_nix_in_pieces():
+    """A server says how large it is, so it may have no end. No more than a piece of it is in memory."""
+    nix, written = real_nix.Nix.__new__(real_nix.Nix), []
+    nix.folder, stdin = "/nix/store", types.SimpleNamespace(write=written.append, flush=lambda: None)
+    nix.process, nix.number, nix.valid = types.SimpleNamespace(stdin=stdin), lambda: 1, lambda _: set()
+
+    def pieces():
+        for at in range(3):
+            yield b"piece %d" % at
+            assert written[-1] == b"piece %d" % at, "it is sent before the next one comes"
+
+    assert nix.put(objects.read_record(record(base(0), size=1 << 60).decode()), b"", pieces)
+    assert written[-3:] == [b"piece %d" % at for at in range(3)]
 
 
 def test_replies(monkeypatch):
@@ -163,3 +183,128 @@ def test_a_bucket_that_does_not_answer(bucket):
         for work in (place.size, lambda name: place.put(__file__, name)):
             with pytest.raises(blobs.Failed, match="timeout"):
                 work("0" * 52)
+
+
+NAMES = [f"{at:052}" for at in range(1000)]
+
+
+def listing(keys, more=None):
+    """What a bucket lists, and the token of the next page or None."""
+    each = "<Contents><Key>%s</Key><Size>5</Size><LastModified>2026-01-01T00:00:00Z</LastModified></Contents>"
+    told = "".join(each % it for it in keys)
+    told += f"<IsTruncated>true</IsTruncated><NextContinuationToken>{more}</NextContinuationToken>" if more else ""
+    return 200, "application/xml", f"<ListBucketResult>{told}</ListBucketResult>".encode()
+
+
+@pytest.mark.needs("python3-boto3")
+@pytest.mark.parametrize("status", [200, 403, 404, 500])
+def test_answers_of_a_bucket_without_an_end(status, bucket, monkeypatch):
+    """What is read whole of a bucket has an end."""
+    from nixkeep_tools import blobs_bucket
+
+    monkeypatch.setattr(blobs_bucket, "LONGEST", BYTES)
+    with answering(lambda *_: (status, "application/xml", None)) as url:
+        place = bucket(url)
+        works = [lambda: [*place.list()], lambda: place.delete(NAMES[0])]
+        works += [lambda: place.open(NAMES[0])] if status != 200 else []
+        for work in works:
+            with pytest.raises(blobs.Failed, match=f"more than {BYTES} bytes"):
+                work()
+
+
+@pytest.mark.needs("python3-boto3")
+def test_a_bucket_that_lists_without_an_end(bucket, monkeypatch):
+    from nixkeep_tools import blobs_bucket
+
+    monkeypatch.setattr(blobs_bucket, "MOST", 50)
+    count = itertools.count()
+
+    def reply(*_):
+        at = next(count)
+        return listing([f"p/{blobs.key_of(it)}" for it in NAMES[10 * at : 10 * at + 10]], f"x{at}")
+
+    with answering(reply) as url, pytest.raises(blobs.Failed, match="more than 50 blobs"):
+        list(bucket(url).list())
+    assert next(count) == 6
+
+
+@pytest.mark.needs("python3-boto3")
+def test_blobs_of_other_stores_in_a_bucket(bucket):
+    """A prefix may be the beginning of another one."""
+    keys = [f"p/{blobs.key_of(NAMES[0])}", f"p/q/{blobs.key_of(NAMES[1])}", f"q/{blobs.key_of(NAMES[2])}",
+            f"p/x{blobs.key_of(NAMES[3])}", f"p/{NAMES[4]}.nar.zst", f"p//{blobs.key_of(NAMES[5])}"]
+    with answering(lambda *_: listing(keys)) as url:
+        assert [it.name for it in bucket(url).list()] == NAMES[:1]
+
+
+# What a bucket answers to all.
+POINTS = b"<Error><Code>PermanentRedirect</Code></Error>"
+BROKEN = {
+    "one that points to another, which points again": (301, "application/xml", POINTS),
+    "the same for a while": (307, "application/xml", b"<Error><Code>TemporaryRedirect</Code></Error>"),
+    "one that names no region": (301, "application/xml", POINTS, ("x-amz-bucket-region", "evil.example/#")),
+    "a page": (500, "text/html", b"<html>"),
+    "an error of errors": (403, "application/xml", b"<Error><Code><a/></Code></Error>"),
+    "bytes": (200, "application/xml", b"\xff\xfe"),
+}
+
+
+@pytest.mark.needs("python3-boto3")
+@pytest.mark.parametrize("what", BROKEN)
+def test_answers_that_no_bucket_gives(what, bucket):
+    with answering(lambda *_: BROKEN[what]) as url:
+        place, status = bucket(url), BROKEN[what][0]
+        for work in [place.size] if status in (301, 307) else [lambda _: [*place.list()], place.delete]:
+            with pytest.raises(blobs.Failed):
+                work(NAMES[0])
+
+
+@pytest.mark.needs("python3-boto3")
+@pytest.mark.parametrize("old, new", [("2026-01-01T00:00:00Z", "99999999999999999999"), ("2026-01-01T00:00:00Z", "x"),
+                                      (">5<", f">{'9' * 5000}<"), (">5<", "><"), ("Key>", "Name>")])
+def test_listings_that_no_bucket_gives(old, new, bucket):
+    status, media, given = listing([f"p/{blobs.key_of(NAMES[0])}"])
+    with answering(lambda *_: (status, media, given.replace(old.encode(), new.encode()))) as url:
+        with pytest.raises(blobs.Failed):
+            list(bucket(url).list())
+
+
+class Endless:
+    """A place whose blob has these bytes, and then others without an end. It says another size."""
+
+    def __init__(self, size, data, more):
+        self.said, self.data, self.more = size, data, more
+
+    def size(self, _):
+        return self.said
+
+    def open(self, *_):
+        return self
+
+    def read(self, count):
+        data, self.data = self.data[:count], self.data[count:]
+        return data or (self.more * (count // len(self.more) + 1))[:count]
+
+    def close(self):
+        pass
+
+
+@pytest.mark.needs("python3-zstandard")
+@pytest.mark.parametrize("more", ["zeros", "frames", "frames of nothing"])
+def test_a_blob_without_an_end(more):
+    """It is damaged, also for who only takes what it should have."""
+    import zstandard
+
+    pack = zstandard.ZstdCompressor(write_checksum=True).compress
+    more = {"zeros": bytes(1000), "frames": pack(bytes(1 << 20)), "frames of nothing": pack(b"")}[more]
+    file, digest = pack(ARCHIVE), lambda data: hashlib.sha256(data).digest()
+    made = pointers.Pointer("/nix/store/x", digest(ARCHIVE), len(ARCHIVE), digest(file), len(file))
+    name = paths.base32(made.nar_hash)
+    for form in blob_reading.FORMS:
+        with pytest.raises(blob_reading.Damaged):
+            for _ in blob_reading.pieces(Endless(len(file), file, more), name, made, form):
+                pass
+    with pytest.raises(blob_reading.Damaged):
+        blob_reading.measured(Endless(len(file), file, more), name)
+    with pytest.raises(FileNotFoundError):
+        blob_reading.measured(Endless(None, file, more), name)

@@ -136,9 +136,9 @@ def test_there_are_rows():
     assert len(ROWS) >= 200
 
 
-# What differs where a program knows the users, by what a row has: the program may refuse a head by itself, which is a
-# failure to nginx, and the one team's name is the only one.
-BY_PROGRAM = {"{fields}": ["500"], "https://green.localhost": ["close"]}
+# What differs where a program knows the users, by what a row has: the one team's name is the only one, and the program
+# may take any kind of login.
+BY_PROGRAM = {"https://green.localhost": ["close"], "Bearer ": ["200,404", "401,404"]}
 
 
 @pytest.mark.parametrize("line", ROWS)
@@ -276,6 +276,31 @@ def test_a_wrong_password_is_a_short_line(site, logs):
     assert site.user("ann", password="wrong")("GET", f"/{'x' * 3000}")[0] == 401
     parts.until("its line", lambda: logs() > before)
     assert logs() - before < 1000
+
+
+def test_no_reply_names_a_version(site):
+    """Neither that of nginx nor what nixkeep-cache runs on, whoever answers, and by whatever refusal."""
+    ann, eve, nobody = site.user("ann"), site.user("eve"), site.user(None)
+    replies = [ann("GET", "/who", None, "-i"), ann("GET", "/x", None, "-i"), eve("GET", "/who", None, "-i"),
+               nobody("GET", "/who", None, "-i"), nobody("GET", "/health", None, "-i"),
+               nobody("POST", "/health", b"x", "-i"), ann("POST", "/x", bytes(21_000_000), "-i"),
+               ann("POST", "/x", b"", "-i", "-H", "origin: https://evil.example"),
+               ann("GET", "/x", None, "-i", "-H", f"x: {'x' * 40_000}"),
+               parts.curl("-i", f"http://127.0.0.1:{site.port}/"), parts.curl("-i", *nobody.words, f"{nobody.url}/%zz")]
+    assert [it[0] for it in replies] == [200, 404, 403, 401, 200, 403, 413, 403, 400, 400, 400]
+    for status, text in replies:
+        assert not re.search(rb"nginx/|aiohttp|Python", text, re.I), (status, text)
+
+
+@pytest.mark.parametrize("name", ["ann", "nobody", "prometheus"])
+def test_a_failed_login_takes_as_long_for_each_name(name, site):
+    """A password is tested only where there is such a user, which takes time. So each 401 comes equally late."""
+    wrong, spent = site.user(name, password="wrong"), []
+    for _ in range(3):
+        status, text = wrong("GET", "/who", None, "-o", "/dev/null", "-w", "%{time_starttransfer}\n%{http_code}")
+        spent.append(float(text))
+        assert status == 401
+    assert min(spent) >= 0.2
 
 
 @pytest.fixture(scope="module")

@@ -6,6 +6,7 @@ what examples/team/try needs, and is skipped without it.
 import base64
 import contextlib
 import http.client
+import json
 import socket
 import ssl
 import tempfile
@@ -13,6 +14,7 @@ from pathlib import Path
 
 import pytest
 
+import parts
 from tests.tools.logins import BOTH, deployed
 from tests.tools.team_try import TEAM
 
@@ -63,7 +65,7 @@ def statuses(site, target, logins):
 def test_names_that_strangers_give_keep_nobody_from_dear_questions(site):
     """Of the questions over all of a store nginx counts those of each user. A stranger gives many long names, so that
     the room for that is full: then it is made for others, however long their names are."""
-    with nginx(site, ("zone=nixkeep_dear:10m", "zone=nixkeep_dear:32k")):
+    with nginx(site, ("zone=nixkeep_dear:10m", "zone=nixkeep_dear:32k"), ("auth_delay           200ms;", "")):
         names = [f"{at:0100}:wrong" for at in range(150)] + [f"{at}:wrong" for at in range(50)]
         assert [*statuses(site, "/paths", names)] == [401] * 200
         assert [site.user(it)("GET", "/paths")[0] for it in ("ann", "bob")] == [PASSED] * 2
@@ -114,14 +116,29 @@ def test_links_of_other_sites_try_few_passwords(site):
         assert log.read_bytes()[before:].count(b'"login":"failed"') == 3
 
 
+# Networks as the log and fail2ban have them, each with four addresses of it as nginx writes them.
+NETWORKS = {
+    "2001:db8:1:2::": ["2001:db8:1:2::1", "2001:db8:1:2:3:4:5:6", "2001:db8:1:2:ffff::", "2001:db8:1:2:0:1:0:1"],
+    "2001:db8::": ["2001:db8::1", "2001:db8::7:8:9:a", "2001:db8::", "2001:db8::1:0:0:1"],
+    "2001:db8:1:3::": ["2001:db8:1:3::1"] * 4,
+    "2001:0:0:5::": ["2001::5:1:2:3:4", "2001:0:0:5::1", "2001::5:0:0:1:1", "2001::5:1:0:0:0"],
+    "2001:0:0:6::": ["2001::6:1:2:3:4"] * 4,
+    "2001::": ["2001::1:2:3:4", "2001::1", "2001::", "2001:0:0:0:1::1"],
+    "192.0.2.1": ["192.0.2.1"] * 4,
+    "::ffff:192.0.2.7": ["::ffff:192.0.2.7"] * 4,
+}
+
+
 def test_a_network_of_ipv6_is_one_address(site):
-    """A client by IPv6 has 2^64 addresses, and no more passwords than another one."""
+    """A client by IPv6 has 2^64 addresses, and no more passwords than another one. fail2ban blocks all of them."""
+    log = Path(f"{site.folder}/log/nixkeep.log")
     seen = "limit_conn_status    429;", "limit_conn_status 429;\nset_real_ip_from 127.0.0.1;\nreal_ip_header x-seen;"
     with nginx(site, seen, ("rate=200r/s", "rate=1r/m"), ("burst=600 delay=500", "burst=2 nodelay")):
-        wrong = site.user("ann", password="wrong")
-        for one in (["2001:db8:1:2::1", "2001:db8:1:2:3:4:5:6", "2001:db8:1:2:ffff::", "2001:db8:1:2:0:1:0:1"],
-                    ["2001:db8::1", "2001:db8::7:8:9:a", "2001:db8::", "2001:db8::1:0:0:1"],
-                    ["2001:db8:1:3::1"] * 4, ["192.0.2.1"] * 4, ["::ffff:192.0.2.7"] * 4):
+        wrong, before = site.user("ann", password="wrong"), log.stat().st_size
+        for one in NETWORKS.values():
             assert [wrong("GET", "/x", None, "-H", f"x-seen: {it}")[0] for it in one] == [401, 401, 401, 429], one
+        parts.until("the lines", lambda: log.read_bytes()[before:].count(b"\n") == 3 * len(NETWORKS))
+        lines = map(json.loads, log.read_bytes()[before:].splitlines())
+        assert [it["network"] for it in lines] == [it for it in NETWORKS for _ in range(3)]
         others = ["192.0.2.2", "::ffff:192.0.2.8", "2001:db8:1:4::1", "2001:db9::1"]
         assert [wrong("GET", "/x", None, "-H", f"x-seen: {it}")[0] for it in others] == [401] * 4

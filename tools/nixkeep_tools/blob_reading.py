@@ -1,7 +1,9 @@
 """Archives in blobs on their way out: verified as they are read, so that a damaged one is never sent whole."""
 import contextlib
+import errno
 import hashlib
 import lzma
+import os
 from collections.abc import Iterable, Iterator
 from concurrent.futures import ThreadPoolExecutor
 
@@ -23,6 +25,23 @@ class Damaged(Exception):
     """A blob that isn't the one that its pointer names."""
 
 
+class Whole:
+    """A stream of a blob that has `left` bytes. A bucket may send more, without an end: then it raises Damaged."""
+
+    def __init__(self, stream: blobs.Stream, left: int, about: str):
+        self.stream, self.left, self.about = stream, left, about
+
+    def read(self, count: int) -> bytes:
+        data = self.stream.read(count)
+        self.left -= len(data)
+        if self.left < 0:
+            raise Damaged(f"blob-damaged {self.about} in the blobs has more bytes than it says")
+        return data
+
+    def close(self) -> None:
+        self.stream.close()
+
+
 def size_of(pointer: Pointer, form: str) -> int:
     return pointer.file_size if form == "zstd" else pointer.nar_size
 
@@ -38,7 +57,7 @@ def opened(place, name, pointer):
         raise Gone(f"blob-missing {pointer.path}: {name} isn't in the blobs")
     if size != pointer.file_size:
         raise Damaged(f"blob-damaged {pointer.path}: {name} in the blobs has {size} bytes, not {pointer.file_size}")
-    return place.open(name)
+    return Whole(place.open(name), size, f"{pointer.path}: {name}")
 
 
 def memory(place: blobs.Place, name: str) -> int:
@@ -83,6 +102,8 @@ def verified(given, name, pointer, form, start):
             yield held
         held = data[max(0, start - at) :]
         at += len(data)
+        if at > size_of(pointer, form):
+            break
     if at != size_of(pointer, form) or digest.digest() != hash_of(pointer, form):
         raise Damaged(f"blob-damaged {pointer.path}: {name} in the blobs has another SHA-256 than its pointer")
     if held:
@@ -112,8 +133,11 @@ def as_xz(given: Iterable[bytes]) -> Iterator[bytes]:
 def measured(place: blobs.Place, name: str) -> tuple[bytes, int, bytes, int]:
     """The SHA-256 and the size of the archive in a blob, and of its file. Raises Damaged for one that isn't whole, or
     has another archive than its name says."""
+    size = place.size(name)
+    if size is None:
+        raise FileNotFoundError(errno.ENOENT, os.strerror(errno.ENOENT), name)
     try:
-        with contextlib.closing(place.open(name)) as stream, ThreadPoolExecutor(2) as pool:
+        with contextlib.closing(Whole(place.open(name), size, name)) as stream, ThreadPoolExecutor(2) as pool:
             nar, file = Digest(pool), Digest(pool)
             for data in of_zstd(Read(stream, file)):
                 nar.add(data)

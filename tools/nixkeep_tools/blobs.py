@@ -86,8 +86,7 @@ class Parts:
 def named(key: str) -> str | None:
     """The name of the blob in a file or under a key, or None for another one."""
     name = key.rpartition("/")[2].removesuffix(SUFFIX)
-    is_blob = key.endswith(SUFFIX) and NAME.fullmatch(name) and key.endswith(f"{name[:2]}/{name}{SUFFIX}")
-    return name if is_blob else None
+    return name if NAME.fullmatch(name) and key == key_of(name) else None
 
 
 def key_of(name: str) -> str:

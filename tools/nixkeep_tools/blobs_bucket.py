@@ -3,10 +3,12 @@ import contextlib
 from collections.abc import Iterator
 
 import boto3
+import botocore.awsrequest
 import botocore.config
 import botocore.exceptions
 import botocore.parsers
 import botocore.response
+import urllib3.exceptions
 from boto3.s3.transfer import TransferConfig
 
 from . import blobs
@@ -15,6 +17,30 @@ from . import blobs
 PART = 16 << 20
 # A request is tried this often, and each try may take this many seconds without a byte.
 TRIES, SECONDS = 4, 30
+# The bytes of an answer that isn't a blob, such as a listing of a thousand, and the blobs of a bucket.
+LONGEST, MOST = 16 << 20, 2_000_000
+
+
+class Answer(botocore.awsrequest.AWSResponse):
+    """An answer of a bucket. One without an end would fill the memory, and botocore has no limit for it."""
+
+    @property
+    def content(self) -> bytes:
+        if self._content is None:
+            found = bytearray()
+            try:
+                for piece in self.raw.stream():
+                    found += piece
+                    if len(found) > LONGEST:
+                        self.raw.close()
+                        raise botocore.exceptions.HTTPClientError(error=f"it has more than {LONGEST} bytes")
+            except urllib3.exceptions.HTTPError as error:
+                raise botocore.exceptions.HTTPClientError(error=error) from error
+            self._content = bytes(found)
+        return self._content
+
+
+botocore.awsrequest.AWSResponse = Answer
 
 
 @contextlib.contextmanager
@@ -24,8 +50,9 @@ def answered(about):
         yield
     except (botocore.exceptions.BotoCoreError, botocore.exceptions.ClientError, boto3.exceptions.Boto3Error) as error:
         raise blobs.Failed(f"{about}: {str(error) or type(error).__name__}".replace("\n", " ")) from error
-    except (botocore.parsers.ResponseParserError, KeyError, ValueError) as error:
-        # (something else answers in its place)
+    except (botocore.parsers.ResponseParserError, ArithmeticError, AttributeError, LookupError, RuntimeError, TypeError,
+            ValueError) as error:
+        # (something else answers in its place, or a bucket that points to another one again and again)
         raise blobs.Failed(f"{about}: its answer isn't that of a bucket: {error!r}"[:500]) from error
 
 
@@ -98,11 +125,15 @@ class Bucket:
         return Opened(self.where, found["Body"])
 
     def list(self) -> Iterator[blobs.Blob]:
+        count = 0
         with answered(self.where):
             for page in self.client.get_paginator("list_objects_v2").paginate(Bucket=self.bucket, Prefix=self.prefix):
                 for it in page.get("Contents", []):
                     if name := blobs.named(it["Key"].removeprefix(self.prefix)):
+                        count += 1
                         yield blobs.Blob(name, it["Size"], it["LastModified"].timestamp())
+                if count > MOST:
+                    raise blobs.Failed(f"{self.where}: it lists more than {MOST} blobs")
 
     def delete(self, name: str) -> None:
         with answered(self.where):

@@ -25,7 +25,8 @@ FILE = re.compile(r"/nar/([0-9a-z]{52}\.nar[.0-9a-z]*)")
 # An archive has its hash in its address, so an address never has other bytes.
 ARCHIVE = re.compile(rf"/nar/({DIGITS}{{52}})/({DIGITS}{{32}}-[0-9A-Za-z+._?=-]+)")
 # Records and archives are kept for a minute, since an object may be deleted. Then a cache asks whether it is there.
-MINUTE = "public, max-age=60"
+# None is `public`: who gets it has logged in, and a cache of others on the way gives it to nobody else.
+MINUTE = "max-age=60"
 BYTES = "application/octet-stream"
 
 

@@ -27,6 +27,9 @@ from .pointers import Pointer
 # The archives that come at once, those of one user, those that are left for users who have none, and the threads that
 # read blobs.
 COMING, EACH, LEFT, READING = 12, 8, 2, 16
+# The replies that take much of a processor for each byte which is sent, at once, those of one user, and those that are
+# left for users who have none: archives that are compressed by xz, and parts up to which an archive has to be unpacked.
+DEAR = 6, 2, 2
 # The seconds in which the last bytes of an archive have to be unpacked, and those that the place of the blobs has for
 # an answer once the end has begun: as many as readers have.
 LAST_BYTES, LATE = 300, LOOK * LAST
@@ -49,7 +52,7 @@ class Blobs:
 
     def __init__(self, place: blobs.Place, level: int, sending: Sending, ends: asyncio.Event | None = None):
         self.place, self.level, self.sending, self.ends = place, level, sending, ends
-        self.coming, self.locks = Places(COMING, EACH, LEFT), weakref.WeakValueDictionary()
+        self.coming, self.dear, self.locks = Places(COMING, EACH, LEFT), Places(*DEAR), weakref.WeakValueDictionary()
         self.threads = ThreadPoolExecutor(COMING + READING, "blobs")
         self.relied, self.seen, self.put, self.sent, self.asking = {}, {}, Count(), Count(), None
 
@@ -183,7 +186,7 @@ class Blobs:
         """The reply with an archive, or with the part of it that is asked for."""
         name, whole = paths.base32(pointer.nar_hash), blob_reading.size_of(pointer, form)
         tag = paths.base32(blob_reading.hash_of(pointer, form))
-        head = {"content-type": "application/octet-stream", "cache-control": "public, max-age=60",
+        head = {"content-type": "application/octet-stream", "cache-control": "max-age=60",
                 "accept-ranges": "bytes", "etag": f'"{tag}"'}
         if any(it.value == tag for it in request.if_none_match or ()):
             return web.Response(status=304, body=b"", headers=head)
@@ -198,8 +201,9 @@ class Blobs:
                 return missing(f"blob-missing {pointer.path}: {name} isn't whole in the blobs")
             return web.Response(status=206 if is_part else 200, body=b"", headers=head)
         given = blob_reading.pieces(self.place, name, pointer, form, start, end)
-        answer = web.StreamResponse(status=206 if is_part else 200, headers=head)
-        return await self.streamed(request, given, answer, name if form == "none" else None)
+        answer, is_plain = web.StreamResponse(status=206 if is_part else 200, headers=head), form == "none"
+        async with self.dear.taken(request["caller"].user) if start and is_plain else contextlib.nullcontext():
+            return await self.streamed(request, given, answer, name if is_plain else None)
 
     async def streamed(self, request: web.Request, given: Iterator[bytes], answer: web.StreamResponse,
                        name: str | None = None) -> web.StreamResponse:

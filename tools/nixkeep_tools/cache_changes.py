@@ -10,9 +10,9 @@ from aiohttp import web
 from .cache_http import READ
 from .cache_watching import Seen
 
-# The paths that a line has at most, those where nothing was done, and the bytes of a body or a reply that are searched
-# for them. So nobody makes the journal forget what was done by requests that do nothing.
-MOST, FEW, SEARCHED = 100, 3, 1 << 20
+# The paths that a line has at most, those where nothing was done, and the bytes of a body that are searched for them.
+# So nobody makes the journal forget what was done by requests that do nothing, or takes the time of all by long bodies.
+MOST, FEW, SEARCHED = 100, 3, 1 << 16
 # The characters that a line has of a target, and where nothing was done.
 LONG, SHORT = 1000, 300
 # The seconds between two lines of requests that name no user, such as those of another site's page. They do nothing.

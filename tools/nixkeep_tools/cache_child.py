@@ -7,6 +7,7 @@ import signal
 import sys
 from pathlib import Path
 
+from . import store_size
 from .cache_server import AHEAD, BROKEN, Caller, Request, message, read_reply
 
 # A server that has run for WELL seconds is started again at once. Else the delay in seconds is LEAST, and each time
@@ -102,6 +103,10 @@ class Child:
             answers = bool(await read_reply(self.process.stdout))
             self.ready.set_result(self.process)
         status = await self.process.wait()
+        with contextlib.suppress(*BROKEN):
+            # (else asyncio prints a trace of what was being written to a server that was killed)
+            async with asyncio.timeout(1):
+                await self.process.stdin.wait_closed()
         if self.handle is not None:
             os.close(self.handle)
             self.handle = None
@@ -117,8 +122,7 @@ class Child:
     def memory(self) -> int | None:
         """The bytes of memory that the server has, or None where it doesn't run."""
         with contextlib.suppress(OSError, AttributeError, ValueError):
-            with open(f"/proc/{self.process.pid}/statm", encoding="ascii") as file:
-                return int(file.read().split()[1]) * os.sysconf("SC_PAGE_SIZE")
+            return store_size.resident(self.process.pid)
         return None
 
     def signal(self, number: int) -> None:

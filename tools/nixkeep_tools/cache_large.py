@@ -12,6 +12,7 @@ from .cache_blobs import Blobs, missing
 from .cache_http import BODY, READ, Answered, Route, is_gone, passed, pieces, reply
 from .cache_pointers import Pointers
 from .cache_records import Bad
+from .cache_room import Held
 from .cache_server import Caller, Reply
 from .cache_stored import Stored
 from .cache_turns import Turns
@@ -46,10 +47,14 @@ def with_hash(head, archive):
     return "\n".join(hashed if it.startswith("nar-hash: ") else it for it in lines).encode()
 
 
-def said(head, key):
-    """What a line of an import's head says, or ''."""
-    match = re.search(rf"^{key}: (.*)$", head.decode("latin-1"), re.M)
-    return match[1] if match else ""
+def said(head: bytes, key: str) -> str:
+    """What a line of an import's head says, or ''. (A head may have 20 MB, in which a regular expression is slow.)"""
+    word = f"{key}: ".encode()
+    at = 0 if head.startswith(word) else head.find(b"\n" + word) + 1
+    if not head.startswith(word, at):
+        return ""
+    end = head.find(b"\n", at)
+    return head[at + len(word) : end if end >= 0 else None].decode("latin-1")
 
 
 def form_for(request):
@@ -152,8 +157,10 @@ class Large:
         """The store's own import. A large archive becomes a blob."""
         if (request.content_length or 0) <= BODY:
             return await self.passing.request(request, self.import_whole)
+        await self.demand_trust(request["caller"])
         given = pieces(request, self.passing.idle)
-        head, first = await head_of(given)
+        async with self.passing.coming.taken(request, HEAD) as held:
+            head, first = await head_of(given, held)
         if head is None:
             return reply(400, "refused: 38 too-large\n")
         cache_changes.note(request, head)
@@ -230,7 +237,8 @@ class Large:
         blob = paths.base32(pointer.nar_hash)
         given = blob_reading.pieces(self.blobs.place, blob, pointer, "none")
         answer = web.StreamResponse(headers={"content-type": BYTES})
-        return await self.blobs.streamed(request, blob_reading.as_xz(given), answer, blob)
+        async with self.blobs.dear.taken(request["caller"].user):
+            return await self.blobs.streamed(request, blob_reading.as_xz(given), answer, blob)
 
     async def listing(self, request: web.Request) -> web.Response:
         """All pointers, a line each: the path, and the hashes and sizes of the archive and of its file."""
@@ -264,11 +272,14 @@ async def again(first, given=None):
             yield piece
 
 
-async def head_of(given: AsyncIterator[bytes]) -> tuple[bytes | None, bytes]:
-    """The head of an import with its empty line, and what was read of the archive; None for a head that is too long."""
+async def head_of(given: AsyncIterator[bytes], held: Held | None = None) -> tuple[bytes | None, bytes]:
+    """The head of an import with its empty line, and what was read of the archive; None for a head that is too long.
+    `held` is the room that it has, if it has any."""
     found = bytearray()
     async for piece in given:
         found += piece
+        if held:
+            held.moved()
         # (a piece may be a byte, so what came before isn't looked at again)
         end = found.find(b"\n\n", max(0, len(found) - len(piece) - 1)) + 2
         if end > 1:

@@ -10,8 +10,9 @@ ACCEPTED, WARNED = 0.6, 0.8
 # The part of the limit by which roots may go beyond it: they are needed before a collection.
 ROOTS = 0.05
 # The part of the memory that a server may have before it takes nothing more: its next start needs a fifth more, and
-# many small rows need much more than their bytes in the file.
-HAD = 0.75
+# many small rows need much more than their bytes in the file. And the part that it may have together with this process,
+# which has the names of all objects: the rest is for listings of them, and for archives.
+HAD, TOGETHER = 0.75, 0.8
 # The seconds between two looks at the file, and between two warnings.
 LOOK, AGAIN = 1, 3600
 
@@ -28,17 +29,18 @@ def usual() -> int | None:
 
 class Limit:
     """A limit of `most` bytes for a file. None is no limit. `had` returns the bytes of memory that its server has now,
-    or None."""
+    or None, and `own` those of this process."""
 
-    def __init__(self, file: str | None, most: int | None, had: Callable[[], int | None] = lambda: None):
+    def __init__(self, file: str | None, most: int | None, had: Callable[[], int | None] = lambda: None,
+                 own: Callable[[], int] = store_size.resident):
         self.file, self.most, self.used, self.coming, self.looked, self.warned = file, most, 0, 0, -LOOK, -AGAIN
-        self.had, self.memory = had, store_size.memory()
+        self.had, self.own, self.memory = had, own, store_size.memory()
 
     def check(self, size: int, is_add: bool = True) -> None:
         """Counts `size` bytes that come. Raises Full where there is no room for them."""
-        if self.memory is not None and (has := self.had() or 0) > HAD * self.memory:
-            raise Full(f"failed: full the server has {has} of {self.memory} bytes of memory: drop roots, collect, and "
-                       "start it again\n")
+        if self.memory is not None and (has := self.had()):
+            self.check_memory("the server has", has, HAD)
+            self.check_memory("the server and nixkeep-cache have", has + self.own(), TOGETHER)
         if self.most is None:
             return
         if time.monotonic() - self.looked > LOOK:
@@ -50,6 +52,12 @@ class Limit:
         if self.used + self.coming + size > allowed:
             raise Full(f"failed: full {self.used} of {self.most} bytes are used: drop roots, and collect\n")
         self.coming += size
+
+    def check_memory(self, who: str, has: int, part: float) -> None:
+        """Raises Full where these have more than a part of the memory."""
+        if has > part * self.memory:
+            raise Full(f"failed: full {who} {has} of {self.memory} bytes of memory: drop roots, collect, and start it "
+                       "again\n")
 
     def is_near(self) -> bool:
         """Whether the file is nearly as large as it may be."""

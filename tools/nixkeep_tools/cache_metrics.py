@@ -3,6 +3,8 @@ import asyncio
 import os
 import re
 import time
+from collections.abc import Iterator
+from typing import Any
 
 from aiohttp import web
 
@@ -66,7 +68,7 @@ class Metrics:
         if seen.route == "record" and seen.request.method in READ and seen.status in (200, 404):
             self.lookups.labels("yes" if seen.status == 200 else "no").inc()
 
-    def collect(self):
+    def collect(self) -> Iterator[Any]:
         """What Prometheus's own library asks for: the figures of the sources."""
         for source in self.sources:
             for name, about, value in source():

@@ -1,8 +1,9 @@
 """The store's paths by their 32 digits, which is how clients of a binary cache ask for them."""
+import asyncio
 import time
-from collections.abc import Callable, Iterable
+from collections.abc import Callable, Iterable, Iterator
 
-from .cache_server import Caller, Reply, Server
+from .cache_server import Caller, Reply, Server, bases_in
 
 
 class Names:
@@ -10,34 +11,41 @@ class Names:
 
     They are listed once for each connection to the server. After that each add and each deletion that passes is
     followed. So a path with unknown digits isn't there, and nobody has to be asked. A change that doesn't pass here
-    is seen at the next listing; an unknown path causes one, at most once in `every` seconds. `followers` are called
-    with the base names of each listing.
+    is seen at the next listing; an unknown path causes one, at most once in `every` seconds, for all who ask meanwhile.
+    `followers` are called with the base names of each listing.
     """
 
-    def __init__(self, server: Server, every: float, followers: Iterable[Callable[[list[str]], object]] = ()):
+    def __init__(self, server: Server, every: float, followers: Iterable[Callable[[Iterator[str]], object]] = ()):
         self.server, self.every, self.followers = server, every, followers
-        self.bases, self.twins, self.connection, self.listed = {}, set(), None, 0
+        self.bases, self.twins, self.connection, self.listed, self.listing = {}, set(), None, 0, None
 
     async def base(self, caller: Caller, digits: str) -> tuple[str | None, Reply | None]:
         """The first base name with these digits or None, and the reply of a server that doesn't list its paths or
         None."""
         is_old = digits not in self.bases and time.monotonic() - self.listed > self.every
         if is_old or self.connection != self.server.connections:
-            reply = await self.server.ask(caller, "GET", "/paths")
-            if reply.status != 200:
-                return None, reply
-            self.bases.clear()
-            self.twins.clear()
-            self.added(reply.text)
-            for it in self.followers:
-                it([line.rpartition("/")[2] for line in reply.text.decode().splitlines()])
-            self.connection, self.listed = self.server.connections, time.monotonic()
+            if not self.listing or self.listing.done():
+                self.listing = asyncio.ensure_future(self.list(caller))
+            if failed := await asyncio.shield(self.listing):
+                return None, failed
         return self.bases.get(digits), None
+
+    async def list(self, caller: Caller) -> Reply | None:
+        """Lists the paths. Returns the reply of a server that doesn't, or None."""
+        reply = await self.server.ask(caller, "GET", "/paths")
+        if reply.status != 200:
+            return reply
+        self.bases.clear()
+        self.twins.clear()
+        self.added(reply.text)
+        for it in self.followers:
+            it(bases_in(reply.text))
+        self.connection, self.listed = self.server.connections, time.monotonic()
+        return None
 
     def added(self, text: bytes) -> None:
         """Follows a reply that names paths which are there, one a line."""
-        for line in text.decode().splitlines():
-            base = line.rpartition("/")[2]
+        for base in bases_in(text):
             other = self.bases.setdefault(base[:32], base)
             if other != base:
                 self.bases[base[:32]] = min(base, other)
@@ -45,8 +53,8 @@ class Names:
 
     def deleted(self, text: bytes) -> None:
         """Follows a reply that names the paths which have been deleted, one a line."""
-        for line in text.decode().splitlines():
-            digits = line.rpartition("/")[2][:32]
+        for base in bases_in(text):
+            digits = base[:32]
             self.bases.pop(digits, None)
             if digits in self.twins:
                 self.connection = None

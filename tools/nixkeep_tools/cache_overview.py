@@ -21,8 +21,9 @@ except ModuleNotFoundError:
 PAGE = re.compile(r"/overview(\?.*)?")
 # The seconds for which figures are kept, and the users whose figures are. A page says of when it is.
 FRESH, USERS = 5, 8
-# The objects times the roots of a store for which figures are made: each object has a bit for each root in memory.
-MOST = 1 << 30
+# The objects times the roots of a store for which figures are made: each object has a bit for each root in memory. And
+# the objects, which have some 2 KB each, with what was read of them.
+MOST, OBJECTS = 1 << 30, 250_000
 # The threads that make figures and pages.
 THREADS = 2
 
@@ -34,7 +35,7 @@ class Overviews:
     def __init__(self, server: Server, store: str, keeps: Sequence[bool], sending: Sending, name: str | None,
                  longest: float = 60):
         self.store, self.keeps, self.sending, self.name, self.longest = store, keeps, sending, name, longest
-        self.records, self.turn, self.made = overview_source.Records(server, keeps[0]), asyncio.Lock(), {}
+        self.records, self.turn, self.made = overview_source.Records(server, keeps[0], OBJECTS), asyncio.Lock(), {}
         # (threads of its own, since archives need the others; and one page at a time, for which users take turns)
         self.threads, self.pages = ThreadPoolExecutor(THREADS, "overview"), Turns()
 
@@ -79,9 +80,12 @@ class Overviews:
             if not made.cancelled() and not made.exception():
                 self.made[caller] = made, asyncio.get_running_loop().time() + FRESH
 
-    async def make(self, caller):
+    async def make(self, caller: Caller) -> overview.Overview:
         async with self.turn:
-            store, live = await self.records.store(caller)
+            try:
+                store, live = await self.records.store(caller)
+            except overview_source.TooMany as many:
+                raise Answered(reply(503, f"the overview of {many} objects takes too much memory: collect\n")) from None
             self.make_room(len(store.objects), len(store.roots))
             return await self.apart(overview.Overview, store, *self.keeps, live)
 

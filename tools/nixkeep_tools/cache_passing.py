@@ -5,7 +5,7 @@ from collections.abc import Awaitable, Callable
 from aiohttp import web
 
 from . import cache_changes
-from .cache_http import BODY, LARGE, Route, Sending, body, passed, reply
+from .cache_http import BODY, LARGE, Route, Sending, body, is_gone, passed, reply
 from .cache_limit import Limit
 from .cache_listings import Listings
 from .cache_names import Names
@@ -13,12 +13,13 @@ from .cache_room import Room
 from .cache_server import Caller, Reply, Request, Server
 from .cache_sessions import Sessions, target as session_of
 from .cache_shares import Shares
+from .cache_turns import Turns
 
 TARGET, METHOD, ANY = re.compile(r"/[!-~]*"), re.compile(r"[A-Z]{1,16}"), re.compile(r".*", re.S)
 ADDS = ("/text", "/source", "/import")
 DELETES = ("/collect", "/delete")
-# What is answered with much: archives, and listings of all of the store.
-MUCH = re.compile(r"/(nar|ls)/.*|/(paths|live|dead|roots)")
+# What is answered with much: archives and their listings, and those of all of the store, which may have hundreds of MB.
+MUCH, ALL = re.compile(r"/(nar|ls)/.*"), re.compile(r"/(paths|live|dead|roots)")
 # The bytes of large bodies that are in memory.
 COMING = 8 * BODY
 # What makes the store larger in another way.
@@ -35,6 +36,7 @@ class Passing:
         self.server, self.names, self.sessions, self.sending = server, names, sessions, sending
         self.limit, self.shares = limit, shares
         self.followers, self.idle, self.coming, self.listings = followers, idle, Room(COMING), Listings(server)
+        self.turns = Turns()
 
     def routes(self) -> list[Route]:
         return [Route(None, ANY, self.request)]
@@ -56,13 +58,25 @@ class Passing:
                 return looked
             made = Request(request["caller"], method, target, given)
             async with self.sending.reserved(request, bool(MUCH.fullmatch(target))):
-                await self.listings.demand(request)
-                answer = passed(await self.answered(made))
+                answer = await self.replied(request, made)
                 cache_changes.note(request, given, answer.body)
                 if held:
                     self.coming.give(held)
-                await self.sending.room(request, answer)
                 return await self.sending.send(request, answer)
+
+    async def replied(self, request: web.Request, made: Request) -> web.Response:
+        """The reply of the server, once there is room for it. Listings of all of the store are made one at a time, and
+        each has its room before the next one is made. Users take turns."""
+        await self.listings.demand(request)
+        if not ALL.fullmatch(made.target):
+            return await self.roomy(request, made)
+        async with self.turns.turn(made.caller.user):
+            return reply(503, "the client has left\n") if is_gone(request) else await self.roomy(request, made)
+
+    async def roomy(self, request, made):
+        answer = passed(await self.answered(made))
+        await self.sending.room(request, answer)
+        return answer
 
     async def answered(self, request: Request) -> Reply:
         if request.method == "DELETE" and request.target == session_of(request.caller.user):

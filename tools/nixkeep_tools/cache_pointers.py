@@ -3,7 +3,7 @@ import collections
 
 from . import pointers
 from .overview_source import Denied
-from .cache_server import Caller, Request, Server
+from .cache_server import Caller, Request, Server, bases_in
 
 # The pointers that are remembered at most.
 MOST = 100_000
@@ -53,7 +53,7 @@ class Pointers:
         answer = await self.server.ask(caller, "GET", "/paths")
         if answer.status != 200:
             raise Denied(answer)
-        return [line.rpartition("/")[2] for line in answer.text.decode().splitlines()]
+        return [*bases_in(answer.text)]
 
     async def among(self, caller: Caller, bases: list[str]) -> dict[str, pointers.Pointer]:
         """The pointers among these objects by base names. Raises Denied."""

@@ -15,8 +15,8 @@ SUFFIXES = {"none": "", "xz": ".xz", "zstd": ".zst"}
 FILE = re.compile(r"([0-9abcdfghijklmnpqrsvwxyz]{52})\.nar(\.[0-9a-z]+)?")
 # A SHA-256 in base 32, which is the name of a blob.
 DIGEST = re.compile(r"[0-9abcdfghijklmnpqrsvwxyz]{52}")
-# The memory that one compressed file may ask for.
-ROOM = 128 << 20
+# The memory that one compressed file may ask for, and the lines that a record may have.
+ROOM, LINES = 128 << 20, 10_000
 
 
 class Bad(Exception):
@@ -39,8 +39,10 @@ def file_named(name: str) -> str:
 
 def fields(text: bytes) -> dict[str, str]:
     """The fields of a record. Raises Bad."""
+    if text.count(b"\n") > LINES:
+        raise Bad(f"a record has at most {LINES} lines")
     try:
-        lines = [line.partition(":") for line in text.decode("ascii").splitlines() if line]
+        lines = [line.partition(":") for line in text.decode("ascii").split("\n") if line]
     except UnicodeDecodeError:
         raise Bad("the record isn't ASCII text") from None
     found = {key: value.strip() for key, colon, value in lines if colon}

@@ -7,9 +7,10 @@ sent before the first reply. aiohttp's own client does neither.
 import asyncio
 import collections
 import contextlib
+import io
 import math
 import re
-from collections.abc import AsyncIterator, Callable, Iterable
+from collections.abc import AsyncIterator, Callable, Iterable, Iterator
 from typing import TYPE_CHECKING
 
 from .cache_turns import Turns
@@ -30,6 +31,13 @@ AHEAD = 1 << 20
 BROKEN = (OSError, EOFError, ValueError, KeyError, IndexError, asyncio.LimitOverrunError)
 # The requests that go out together where many are asked at once, and the bytes of a large body that do.
 TOGETHER, PIECE = 100, 1 << 18
+
+
+def bases_in(text: bytes) -> Iterator[str]:
+    """Yields the base names in a reply that names a path in each line. A listing of all paths may have hundreds of MB,
+    so its lines are read one by one."""
+    for line in io.BytesIO(text):
+        yield line.rpartition(b"/")[2].rstrip(b"\n").decode()
 
 
 class Unreachable(Exception):

@@ -5,6 +5,7 @@ from collections.abc import Collection, Iterable, Iterator
 
 from . import cache_lists, cache_records
 from .cache_limit import Full
+from .cache_server import bases_in
 
 
 class Shares:
@@ -53,7 +54,7 @@ class Shares:
 
     def deleted(self, text: bytes) -> None:
         """Follows a reply that names the paths which have been deleted, one a line."""
-        self.drop([line.rpartition("/")[2] for line in text.decode().splitlines()])
+        self.drop([*bases_in(text)])
 
     def bases(self) -> list[str]:
         return [it for (it,) in self.conn.execute("SELECT base FROM added")] if self.conn else []
@@ -64,7 +65,7 @@ class Shares:
 
     def listed(self, bases: Iterable[str]) -> None:
         """Follows a listing of all paths: what was deleted elsewhere counts no more."""
-        there = set(bases)
+        there = set(bases) if self.conn else ()
         self.drop([it for it in self.bases() if it not in there and not cache_records.DIGEST.fullmatch(it)])
 
     def drop(self, bases: Collection[str]) -> None:

@@ -9,6 +9,7 @@ from collections.abc import Iterable
 from pathlib import Path
 
 from . import cache_lists, cache_records, paths
+from .cache_server import bases_in
 
 try:
     from nacl import exceptions, signing
@@ -166,7 +167,7 @@ class Signing:
     def deleted(self, text: bytes) -> None:
         """Follows a reply that names the paths which have been deleted, one a line."""
         if self.conn:
-            self.drop(line.rpartition("/")[2] for line in text.decode().splitlines())
+            self.drop(bases_in(text))
 
     def listed(self, bases: Iterable[str]) -> None:
         """Follows a listing of all paths: what was deleted elsewhere has no signature."""

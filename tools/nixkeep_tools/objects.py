@@ -20,9 +20,9 @@ from .http_client import Foreign, Lost, Place, Server, SocketConnection
 Record = collections.namedtuple("Record", "base nar_hash nar_size refs deriver ca")
 NOT_VALID, MISSING_REFERENCE, BAD_BODY, BAD_NAME, NO_ROUTE = 23, 24, 41, 34, 39
 TRIES = 10
-# The references of an object and the objects of a closure, at most: a server may name one after another without an
-# end.
-REFERENCES, CLOSURE = 4_096, 1_000_000
+# The references of an object, and the objects of a closure and the references of all of them, at most: a server may
+# name one after another without an end.
+REFERENCES, CLOSURE, LINKS = 4_096, 1_000_000, 20_000_000
 
 
 def lines(*pairs: tuple) -> bytes:
@@ -200,15 +200,17 @@ class Store:
         for base in tops:
             if not self.keep(base):
                 raise Stop(f"refused: {NOT_VALID} not-valid {self.full(base)}", REFUSED)
-        found, left, seen = {}, list(tops), {*tops}
+        found, left, names, count = {}, list(tops), {it: it for it in tops}, 0
         while left:
-            base = left.pop()
-            found[base] = self.record(base)
-            fresh = {*found[base].refs} - seen
-            seen |= fresh
-            left += fresh
-            if len(seen) > CLOSURE:
+            record = self.record(left.pop())
+            left += {*record.refs} - names.keys()
+            # (one text for all that refer to an object)
+            found[record.base] = record._replace(refs=[names.setdefault(it, it) for it in record.refs])
+            count += len(record.refs)
+            if len(names) > CLOSURE:
                 raise Stop(f"failed: answer: {self}: the closure has more than {CLOSURE} objects")
+            if count > LINKS:
+                raise Stop(f"failed: answer: {self}: the closure has more than {LINKS} references")
         return found
 
     def valid(self, bases: Iterable[str]) -> set[str]:

@@ -100,11 +100,17 @@ def outputs(archive, store_dir):
     return {name: sys.intern(path) for name, path in drv.outputs(bytes(text), store_dir)}
 
 
-class Records:
-    """The objects of a server, kept from one overview to the next: an object never changes while it is there."""
+class TooMany(Exception):
+    """More objects than are read, with their number."""
 
-    def __init__(self, server: Server, keeps_outputs: bool):
+
+class Records:
+    """The objects of a server, kept from one overview to the next: an object never changes while it is there. `most`
+    are read, or all of them."""
+
+    def __init__(self, server: Server, keeps_outputs: bool, most: int | None = None):
         self.server, self.keeps_outputs, self.objects, self.connection = server, keeps_outputs, {}, None
+        self.most = most
 
     def forget(self, text: bytes) -> None:
         """Forgets the paths that a reply names, one a line: they have been deleted."""
@@ -118,9 +124,11 @@ class Records:
         return reply.text.decode().splitlines()
 
     async def store(self, caller: Caller) -> tuple[store_file.Store, set[str]]:
-        """The Store as a caller sees it, and the set of live paths by the server's own word. Raises Denied or
+        """The Store as a caller sees it, and the set of live paths by the server's own word. Raises Denied, TooMany or
         Unreachable."""
         lines = await self.ask(caller, "/paths")
+        if self.most is not None and len(lines) > self.most:
+            raise TooMany(len(lines))
         if self.connection != self.server.connections:
             self.objects, self.connection = {}, self.server.connections
         listed = [line.rpartition("/")[2] for line in lines]
@@ -156,4 +164,4 @@ class Records:
                 self.objects[base] = self.objects[base]._replace(outputs=recorded)
 
 
-__all__ = ["Denied", "Records", "Unreachable", "of_file", "settings"]
+__all__ = ["Denied", "Records", "TooMany", "Unreachable", "of_file", "settings"]

@@ -157,7 +157,9 @@ class Nix:
         self.send(strings([*map(self.full, record.refs)]))
         # The time of registration, the size, whether it was built here, and signatures.
         self.send(number(0), number(record.nar_size), number(0), strings([]), string(record.ca or ""))
-        self.send(*(of_large() if of_large else [archive]))
+        for piece in of_large() if of_large else [archive]:
+            # (one by one: a server may say any size, and all of them would be in memory)
+            self.send(piece)
         self.number()
         self.valid([record.base])
         return True

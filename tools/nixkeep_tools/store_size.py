@@ -51,6 +51,12 @@ def memory() -> int | None:
     return min(found, default=None)
 
 
+def resident(process: int | str = "self") -> int:
+    """The bytes of memory that a process has. Raises OSError or ValueError for one that has ended."""
+    with open(f"/proc/{process}/statm", encoding="ascii") as file:
+        return int(file.read().split()[1]) * os.sysconf("SC_PAGE_SIZE")
+
+
 def opened_with(limit: int) -> int:
     """The bytes of the largest file that a server opens with so much memory: docs/OPERATING.md, Growth."""
     return max(0, limit - BESIDES)
