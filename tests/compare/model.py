@@ -74,8 +74,8 @@ def test_the_model_itself():
 def test_a_seed(folder):
     """It draws the same scenarios in each process, whatever Python's hashes are, and leaves no file."""
     environment = {"PYTHONPATH": f"{HERE}/dev", "PYTHONDONTWRITEBYTECODE": "1", "HOME": folder}
-    digest = lambda hashes: subprocess.run([sys.executable, "-c", DIGEST], env={**environment, "PYTHONHASHSEED": hashes},
-                                           cwd=folder, check=True, capture_output=True).stdout
+    digest = lambda hashes: subprocess.run([sys.executable, "-c", DIGEST], cwd=folder, check=True, capture_output=True,
+                                           env={**environment, "PYTHONHASHSEED": hashes}).stdout
     report.same("the digest of the same scenarios", digest("1"), digest("2"))
     report.same("the files that drawing leaves", [*Path(folder).iterdir()], [])
 

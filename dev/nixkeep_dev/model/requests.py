@@ -6,7 +6,7 @@ from types import SimpleNamespace
 
 from . import archives, policy, texts
 from .store import Store
-from .values import GROUPS, ODD_STORE_NAMES, STORE_NAMES, USERS, Choices, Values, nearest
+from .values import GROUPS, ODD_NAMES, ODD_STORE_NAMES, STORE_NAMES, USERS, Choices, Values, nearest
 
 # The choices that make a request: its kind; who asks, and what it names; what is wrong with it, and how it is written;
 # what it adds.
@@ -40,7 +40,7 @@ ODD_SESSIONS = ["0", "007", "4194304", "4194305", "-1", "x", "99999999999"]
 ODD_LIMITS = [str(2**64), "01", "00", "-1", "+1", "", "x", "9" * 30]
 # What is wrong with a request: in how many of a thousand, and of which kinds.
 FAULTS = {
-    "name": (40, (*OF_PROFILE, *OF_ROOT, "end-session", "add-temporary")), "user": (70, WEIGHTS),
+    "name": (40, (*OF_PROFILE, *OF_ROOT, "end-session", "add-temporary")), "user": (50, WEIGHTS),
     "path": (60, (*OF_FILE, "info", "archive", "listing", "roots-of", "delete", "set-profile", *OF_ROOT)),
     "number": (80, ("switch", "delete-generation", "add-temporary", "end-session", "collect")),
     "store name": (50, ["add-text", "add-source"]), "many references": (3, OF_FILE), "pieces": (6, OF_FILE),
@@ -109,9 +109,10 @@ class Requests(Values):
         number, group = by.number(256), by.pick([None, None, *GROUPS])
         is_trusted = lambda user: policy.class_of(self.store.config, policy.Caller(user, group)) == "trusted"
         trusted = [user for user in USERS if is_trusted(user)] if kind in TRUST and number // 16 % 4 < 3 else USERS
-        if "user" in self.faults:
-            return self.plain_name(USERS, by), self.plain_name(GROUPS, by)
-        return (trusted or USERS)[number % len(trusted or USERS)], group
+        user = (trusted or USERS)[number % len(trusted or USERS)]
+        if "user" not in self.faults:
+            return user, group
+        return (user, self.form.pick(ODD_NAMES)) if self.form.chance(0.3) else (self.form.pick(ODD_NAMES), group)
 
     def kind(self, drawn: Drawn, kinds: Sequence[str] = ()) -> str:
         """One of these kinds or, where there are none, of those that the scenario has."""
@@ -230,7 +231,7 @@ class Requests(Values):
         """Names a generation that is there, or the path of one."""
         if not by.chance(0.15):
             made.number = self.written([nearest(number, generations)], by)
-        if by.chance(0.6):
+        if by.chance(0.4):
             made.path = self.path_text(generations[nearest(number, generations)], number)
 
 

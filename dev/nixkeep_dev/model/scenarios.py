@@ -101,7 +101,7 @@ class Scenarios(Commands):
             messages.append(by.pick(ODD_ENDS))
         return Step(["--db", FILE, *words, "serve"], messages, self.cuts(sum(map(len, messages)), by))
 
-    def asked(self, kinds, by):
+    def asked(self, kinds: Sequence[str], by: Choices) -> list[bytes]:
         """A message of each of these kinds; none of them closes the connection."""
         found = []
         for kind in kinds:
@@ -143,7 +143,7 @@ class Scenarios(Commands):
         if schema < 3:
             world.temporary.clear()
         rows = tables.rows_of(world, self.dir if not by.chance(0.05) else "/other", schema)
-        for _ in range(by.pick([1, 1, 2]) if by.chance(0.12) else 0):
+        for _ in range(by.pick([1, 1, 2]) if by.chance(0.2) else 0):
             self.change(rows, by)
         return rows
 
@@ -198,7 +198,7 @@ class Scenarios(Commands):
 
     def put_root(self, world, by):
         """Adds a root of some kind."""
-        kind, owner, target = by.number(5), by.pick(USERS), nearest(by.number(65_536), world.objects)
+        kind, owner, target = by.pick([0, 1, 2, 2, 2, 3, 4]), by.pick(USERS), nearest(by.number(65_536), world.objects)
         if kind == 0:
             world.permanent[by.pick(["r", "s"])] = target
         elif kind == 1:
