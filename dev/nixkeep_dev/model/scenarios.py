@@ -31,10 +31,10 @@ NUMBERS = [1, 2, 3, 9998, 9999]
 class Scenarios(Commands):
     """Makes scenarios of choices."""
 
-    def scenario(self, begin: bytes, configs: Sequence[bytes], world: tuple | None, commands: Sequence,
-                 stream: tuple | None) -> Scenario:
-        """A scenario with configurations, a first database, commands and a stream of messages, if there are these."""
-        self.set_manner(by := Choices(begin))
+    def scenario(self, commands: Sequence, stream: tuple | None, world: tuple | None, configs: Sequence[bytes],
+                 manner: bytes) -> Scenario:
+        """A scenario of commands, a stream of messages after them and a first database, if there are these."""
+        self.set_manner(by := Choices(manner))
         self.dir = by.pick(STORE_DIRS)
         # (the second configuration may have another store directory)
         folders = [self.dir, by.pick([self.dir] * 6 + STORE_DIRS[4:])]
@@ -81,7 +81,7 @@ class Scenarios(Commands):
         name = by.pick([*names, None] if self.dir == "/nix/store" else names)
         return (configs[name], ["--config", name]) if name else (b"", [])
 
-    def stream_step(self, scenario: Scenario, end: bytes, adds: Sequence, others: Sequence[Sequence]) -> Step:
+    def stream_step(self, scenario: Scenario, adds: Sequence, others: Sequence[Sequence], end: bytes) -> Step:
         """A server of a stream of messages, of which the first are adds."""
         drawn = [(drawn_of(it), ADDS) for it in adds] + [(drawn_of(it), ()) for some in others for it in some]
         by = Choices(end)
@@ -134,9 +134,9 @@ class Scenarios(Commands):
 
     # ---- the first database
 
-    def first_rows(self, begin: bytes, objects: Sequence[tuple], roots: Sequence[bytes]) -> dict[str, set] | None:
+    def first_rows(self, objects: Sequence[tuple], roots: Sequence[bytes], manner: bytes) -> dict[str, set] | None:
         """The rows of a database of any schema, most often a sound one; None is a file that is no database."""
-        by = Choices(begin)
+        by = Choices(manner)
         if by.chance(0.02):
             return None
         world, schema = self.first_world(by, objects, roots), by.pick([3, 3, 3, 3, 2, 1])
