@@ -64,7 +64,8 @@ def tries(test: Callable, strategy: SearchStrategy, seed: int, count: int) -> No
         phases, before = [Phase.reuse if at else Phase.generate, Phase.shrink], len(failures)
         settings = hypothesis.settings(max_examples=count, database=database, phases=phases, **SETTINGS)
         try:
-            return hypothesis.seed(seed)(settings(hypothesis.given(strategy)(each)))()
+            # (`seed` takes the database away, so the settings come after it)
+            return settings(hypothesis.seed(seed)(hypothesis.given(strategy)(each)))()
         except Exception:
             if len(failures) - before < STOPS or at == ROUNDS - 1:
                 raise
