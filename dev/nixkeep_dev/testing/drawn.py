@@ -19,7 +19,7 @@ from nixkeep_dev.model.scenarios import Scenarios
 # (deadlines and the check of how fast values are drawn would measure how busy the machine is)
 SETTINGS = {"deadline": None, "report_multiple_bugs": False, "verbosity": Verbosity.quiet,
             "suppress_health_check": [HealthCheck.too_slow]}
-# After so many ever smaller examples Hypothesis stops; then it is to go on from the smallest, a few times.
+# Hypothesis stops after 500 failures, each of a smaller example. Then it goes on from the smallest, a few times.
 STOPS, ROUNDS = 500, 4
 Flaky = hypothesis.errors.Flaky
 
