@@ -4,9 +4,10 @@ A random list of requests is answered three times: by one server over memory; by
 opened anew after each request; and over another file by a server for each request, so that it is closed and opened
 again between any two. After each request all paths, all roots, what is live and the report are asked for, of the
 copies too, and each reply has to be the same, byte for byte. So what a call has left in memory is what its rows say.
-The requests are of every kind, by trusted and allowed callers and strangers, as `nixkeep_dev.model` draws them, and
+The requests are of every kind, by trusted and allowed callers and strangers, as `nixkeep_dev.model` makes them, and
 many are refused or denied. `--count` lists are tried (20), of 20 requests.
 """
+import random
 import subprocess
 from pathlib import Path
 
@@ -22,10 +23,10 @@ COUNT, LENGTH = 20, 20
 def drawn(seed):
     """A configuration, and requests that meet one another, as the scenarios of the model have them, most of which fit
     what is there by then."""
-    scenarios = Scenarios(seed)
-    config, found = scenarios.server_config(), []
+    rng, scenarios = random.Random(seed), Scenarios()
+    config, found = scenarios.server_config(rng), []
     while len(found) < LENGTH:
-        it = scenarios.request()
+        it = scenarios.request(*scenarios.by_chance(rng))
         asked = (it.user, *scenarios.target(it), scenarios.body(it))
         # (the model does it too; of a head that it doesn't read it has no reply to go on after)
         if not server.serve(scenarios.store, message(*asked))[1]:

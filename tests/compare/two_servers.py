@@ -2,7 +2,7 @@
 
 The servers have different stores with one store directory, so a path may be valid in one of them alone, or have other
 contents there. The clients of both begin together. Each makes connection after connection, and asks one request after
-another on each, of every kind, by trusted and allowed callers and strangers, as `nixkeep_dev.model` draws them. A
+another on each, of every kind, by trusted and allowed callers and strangers, as `nixkeep_dev.model` makes them. A
 server takes one connection at a time, so its connections have an order. The model answers them in this order, for
 each store alone, and each reply has to be the model's, byte for byte. In the end each file has to have the rows of its
 own model.
@@ -10,6 +10,7 @@ own model.
 """
 import contextlib
 import os
+import random
 import socket
 import threading
 from concurrent.futures import ThreadPoolExecutor
@@ -33,21 +34,21 @@ class Side:
     """One of the two stores: its configuration, and for each client what it asks on each of its connections."""
 
     def __init__(self, name, seed):
-        self.name, scenarios = name, Scenarios(f"{seed} {name}")
-        self.config = scenarios.server_config()
+        self.name, rng, scenarios = name, random.Random(f"{seed} {name}"), Scenarios()
+        self.config = scenarios.server_config(rng)
         # (a list of each kind comes on one connection, so nothing that others ask comes between)
         self.clients = [[[message(*it) for it in [*requests(), *kept()]]], *[[] for _ in range(1, CLIENTS)]]
         for asked in [it for _ in range(CONNECTIONS) for it in self.clients]:
-            asked.append(self.connection(scenarios))
+            asked.append(self.connection(scenarios, rng))
         # The connections in the order in which they were served: a client, which of its own it was, and its replies.
         self.served = []
 
-    def connection(self, scenarios):
+    def connection(self, scenarios, rng):
         """What is asked on a connection, most of which fits what is there by then. The first closes no connection: the
         order is written down when its reply has come."""
-        asked = [message(*scenarios.pick(STATE))]
-        for _ in range(scenarios.rng.randint(1, MESSAGES)):
-            asked.append(scenarios.message())
+        asked = [message(*rng.choice(STATE))]
+        for _ in range(rng.randint(1, MESSAGES)):
+            asked.append(scenarios.message(*scenarios.by_chance(rng)))
             if server.serve(scenarios.store, asked[-1])[1]:
                 break
         return asked

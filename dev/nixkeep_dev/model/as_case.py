@@ -5,8 +5,7 @@ import shlex
 
 from nixkeep_dev.testing.cases import lines_of
 from . import tables
-from .runs import pieces_of
-from .scenarios import FILE, Scenario
+from .runs import FILE, Scenario, pieces_of
 
 SHOWN = r"sed 's/\r/\\r/g'"
 

@@ -1,14 +1,18 @@
-"""Random requests written as HTTP messages and as command lines, with random faults of form."""
+"""Requests written as HTTP messages and as command lines, with faults of form."""
+import itertools
 from types import SimpleNamespace
 
 from . import server
-from .requests import Requests
-from .values import ODD_STORE_NAMES, STORE_NAMES
+from .requests import ADDS, Drawn, Requests
+from .values import ODD_STORE_NAMES, STORE_NAMES, USERS, Choices
 
 METHODS = ["HEAD", "get", "PUT", "DELETE", "GET", "POST", "!#$%&'*+-.^_`|~9"]
 TARGETS = """/ /nothing /paths/ /paths?x=1 //paths /PATHS * /root/user/ann /info/ /a\u00e9 http://localhost/paths
 /root/permanent/ /profile/ann/ /text/x /switch/ann/work /%70aths""".split()
+# Ways to write a line of a head: the case of its name, and the white space before and after its value.
+FIELD_FORMS = [*itertools.product([str, str.title, str.upper], [" ", "", "\t ", "  "], ["", " ", " \t"])]
 FIELDS = ["host: localhost", "host: other", "accept: */*", "x: ", "x:", "x-y: \u00fc\t1", "content-type: text/html"]
+CONNECTIONS = ["close", "CLOSE", "close, te", "keep-alive", "", "upgrade"]
 # Lines of a body that most often don't belong there.
 LINES = ["x: 1", "name", "name:a", "path: ", ": ", "ignore-liveness: true", "max-freed: 1", "reference: x"]
 LINES += ["root: a", ""]
@@ -47,6 +51,10 @@ HEADS = [
     "GET /paths HTTP/1.1\nstore-user: ann\n\r\r\n",
     "\x16\x03\x01",
 ]
+# What is put among the words of a command line.
+ODD_WORDS = ["--flag", "-x", "--owner", "", "x", "--permanent", "--", "-"]
+# What may be wrong with a command that opens no database.
+FAULTS_OF_STATELESS = [None] * 11 + ["archive", "derivation", "store name", "path", "many references"]
 
 
 def targets():
@@ -57,122 +65,114 @@ def targets():
 TARGET = targets()
 
 
-class Messages(Requests):
-    """Draws HTTP messages."""
+def lines_of(it: SimpleNamespace) -> list[str]:
+    """The lines of the body of a request."""
+    if it.kind in ("add-text", "add-source"):
+        return [f"name: {it.name}", *(f"reference: {path}" for path in it.references)]
+    if it.kind == "import":
+        found = [f"path: {it.path}", f"nar-hash: {it.digest}", *(f"reference: {path}" for path in it.references)]
+        found += [f"deriver: {it.deriver}"] * (it.deriver is not None)
+        return found + [f"ca: {it.address}"] * (it.address is not None)
+    if it.kind == "replace-runtime":
+        return [f"root: {label} {path}" for label, path in it.pairs]
+    if it.kind in ("collect", "delete"):
+        found = [f"ignore-liveness: {it.ignore}"] * (it.ignore is not None)
+        if it.kind == "delete":
+            return found + [f"path: {path}" for path in it.paths]
+        return found + [f"max-freed: {it.limit}"] * (it.limit is not None)
+    has_path = it.kind in ("set-permanent", "set-user-root", "set-profile", "add-temporary")
+    return [f"path: {it.path}"] * has_path
 
-    def lines(self, it: SimpleNamespace) -> list[str]:
-        """The lines of the body of a request."""
-        if it.kind in ("add-text", "add-source"):
-            return [f"name: {it.name}", *(f"reference: {path}" for path in it.references)]
-        if it.kind == "import":
-            found = [f"path: {it.path}", f"nar-hash: {it.digest}", *(f"reference: {path}" for path in it.references)]
-            found += [f"deriver: {it.deriver}"] * (it.deriver is not None)
-            return found + [f"ca: {it.address}"] * (it.address is not None)
-        if it.kind == "replace-runtime":
-            return [f"root: {label} {path}" for label, path in it.pairs]
-        if it.kind in ("collect", "delete"):
-            found = [f"ignore-liveness: {it.ignore}"] * (it.ignore is not None)
-            if it.kind == "delete":
-                return found + [f"path: {path}" for path in it.paths]
-            return found + [f"max-freed: {it.limit}"] * (it.limit is not None)
-        has_path = it.kind in ("set-permanent", "set-user-root", "set-profile", "add-temporary")
-        return [f"path: {it.path}"] * has_path
+
+class Messages(Requests):
+    """Makes HTTP messages."""
 
     def body(self, it: SimpleNamespace) -> bytes:
-        lines = [line.encode() for line in self.lines(it)]
-        payload = getattr(it, "payload", b"")
-        if self.chance(0.5):
-            self.rng.shuffle(lines)
-        if self.odd(0.04):
+        lines, payload = [line.encode() for line in lines_of(it)], getattr(it, "payload", b"")
+        if "spoiled line" in self.faults:
             self.spoil(lines)
-        if not lines and not payload and self.chance(0.7):
+        if not lines and not payload and not self.form.chance(0.3):
             return b""
-        body = b"".join(line + b"\n" for line in lines) + (b"" if self.odd(0.01) else b"\n") + payload
-        return body + b"x" if self.odd(0.01) else body
+        lines = self.form.turned(lines) if self.form.chance(0.5) else lines
+        body = b"".join(line + b"\n" for line in lines) + b"\n" * ("no empty line" not in self.faults) + payload
+        return body + b"x" * ("more bytes" in self.faults)
 
     def spoil(self, lines):
         """Changes, adds or removes one line of a body."""
-        at = self.rng.randint(0, max(len(lines) - 1, 0))
-        change = self.rng.randrange(5)
+        at, change = self.form.number(len(lines) or 1), self.form.number(5)
         if change < 2:
-            lines.insert(at, self.pick(LINES).encode() if change else self.pick([b"x: \xff", b"name: a\r"]))
+            lines.insert(at, self.form.pick(LINES).encode() if change else self.form.pick([b"x: \xff", b"name: a\r"]))
         elif lines and change == 2:
             lines.insert(at, lines[at])
         elif lines and change == 3:
             del lines[at]
         elif lines:
             line = lines[at]
-            lines[at] = self.pick([line.upper(), line.replace(b": ", b":"), line + b"\r", b" " + line])
+            lines[at] = self.form.pick([line.upper(), line.replace(b": ", b":"), line + b"\r", b" " + line])
 
     def target(self, it: SimpleNamespace) -> tuple[str, str]:
         method, route = TARGET[it.kind]
         fields = {name: getattr(it, name, None) or "" for name in ("owner", "name", "number", "session")}
         path = getattr(it, "path", "")
-        fields["path"] = path if self.odd(0.01) else path.removeprefix(self.dir + "/")
+        fields["path"] = path if "store directory" in self.faults else path.removeprefix(self.dir + "/")
         return method, route.format(**fields).replace(" ", "%20").replace("\t", "%09")
 
-    def field(self, name: str, value: str) -> str:
-        """A line of a head, with a random case of its name and random white space."""
-        name = self.pick([name, name, name, name.title(), name.upper()])
-        before, after = self.pick([" ", " ", " ", "", "\t ", "  "]), self.pick(["", "", "", " ", " \t"])
-        return f"{name}:{before}{value}{after}"
-
     def fields(self, it: SimpleNamespace, body: bytes) -> list[str]:
-        lines = [self.field("store-user", it.user)] * (not self.odd(0.005))
-        lines += [self.field("store-group", it.group)] * (it.group is not None)
-        lines += [self.field("content-length", self.pick(["", "", "0", "000000000000"]) + str(len(body)))] * (
-            body != b"" or self.chance(0.1)
-        )
-        lines += self.some(FIELDS, 3) if self.chance(0.3) else []
-        if self.odd(0.01):
-            lines += self.pick([["store-user: ann"], ["store-group: users", "store-group: users"]])
-        if self.odd(0.02):
-            values = self.some(["close", "CLOSE", "close, te", "keep-alive", "", "upgrade"], 2)
-            lines += [self.field("connection", value) for value in values]
-        self.rng.shuffle(lines)
-        return lines
+        """The lines of a head, each in some form."""
+        zeros = self.form.pick(["", "", "", "", "0", "000000000000"])
+        pairs = [("store-user", it.user)] * ("no user" not in self.faults)
+        pairs += [("store-group", it.group)] * (it.group is not None)
+        pairs += [("content-length", zeros + str(len(body)))] * (body != b"" or self.form.chance(0.1))
+        if "connection" in self.faults:
+            pairs += [("connection", it) for it in self.form.some(CONNECTIONS, 2)]
+        case, before, after = self.form.pick(FIELD_FORMS) if self.form.chance(0.7) else FIELD_FORMS[0]
+        lines = [f"{case(name)}:{before}{value}{after}" for name, value in pairs]
+        lines += self.form.some(FIELDS, 3) if self.form.chance(0.3) else []
+        if "double field" in self.faults:
+            lines += self.form.pick([["store-user: ann"], ["store-group: users", "store-group: users"]])
+        return self.form.turned(lines)
 
     def head(self, it: SimpleNamespace, body: bytes) -> str:
         method, target = self.target(it)
-        if self.odd(0.02):
-            method = self.pick(METHODS)
-        if self.odd(0.02):
-            target = self.pick(TARGETS)
+        if "method" in self.faults:
+            method = self.form.pick(METHODS)
+        if "target" in self.faults:
+            target = self.form.pick(TARGETS)
+        blank = self.form.pick(["\r\n", "\n", "\r\n\r\n"]) if "blank lines" in self.faults else ""
         lines = self.fields(it, body)
-        if self.odd(0.003):
-            lines += ["x: y"] * self.pick([64 - len(lines), 65 - len(lines)])
-        version = "HTTP/1.0" if self.odd(0.005) else "HTTP/1.1"
-        line_end = "\n" if self.chance(0.1) else "\r\n"
-        blank = self.pick(["\r\n", "\n", "\r\n\r\n"]) if self.odd(0.03) else ""
+        if "many fields" in self.faults:
+            lines += ["x: y"] * self.form.pick([64 - len(lines), 65 - len(lines)])
+        version = "HTTP/1.0" if "version" in self.faults else "HTTP/1.1"
+        line_end = "\n" if self.form.chance(0.1) else "\r\n"
         return blank + line_end.join([f"{method} {target} {version}", *lines, "", ""])
 
     def long_head(self, it):
         """A head of the greatest length, or of one byte more."""
         head = f"GET /paths HTTP/1.1\r\nstore-user: {it.user}\r\nx: "
-        return head + "y" * (server.HEAD + self.pick([0, 1]) - len(head) - 4) + "\r\n\r\n"
+        return head + "y" * (server.HEAD + self.form.number(2) - len(head) - 4) + "\r\n\r\n"
 
-    def message(self, kind: str | None = None) -> bytes:
-        """The bytes of a message, which most often carries a request of this kind, or else of a random one."""
-        it = self.request(kind)
-        if self.odd(0.004):
-            return self.pick(HEADS).encode("latin-1")
-        if self.odd(0.002):
+    def message(self, drawn: Drawn, kind: str | None = None) -> bytes:
+        """The bytes of a message, which most often carries a request of this kind, or else of one by choice."""
+        it = self.request(drawn, kind)
+        if "no head" in self.faults:
+            return self.form.pick(HEADS).encode("latin-1")
+        if "long head" in self.faults:
             return self.long_head(it).encode()
         body = self.body(it)
         head = self.head(it, body)
-        if self.odd(0.004):
-            head = head.replace("\r\n", f"\r\n{self.pick(LENGTHS)}\r\n", 1)
+        if "length" in self.faults:
+            head = head.replace("\r\n", f"\r\n{self.form.pick(LENGTHS)}\r\n", 1)
         return head.encode() + body
 
 
 class Commands(Messages):
-    """Draws command lines: the words after the common options, and standard input."""
+    """Makes command lines: the words after the common options, and standard input."""
 
     def words(self, it: SimpleNamespace) -> list[str]:
         """The words of a request."""
-        option = lambda name, value: self.pick([[f"--{name}", value], [f"--{name}={value}"]])
-        named = getattr(it, "owner", None)
-        owner = option("owner", named) if named is not None and (named != it.user or self.chance(0.2)) else []
+        named, is_joined = getattr(it, "owner", None), self.form.chance(0.5)
+        is_named = named is not None and (named != it.user or self.form.chance(0.2))
+        owner = ([f"--owner={named}"] if is_joined else ["--owner", named]) * is_named
         made = {
             "add-text": lambda: ["add-text", it.name, *it.references],
             "add-source": lambda: ["add-source", it.name, *it.references],
@@ -202,36 +202,49 @@ class Commands(Messages):
 
     def moved(self, words: list[str]) -> list[str]:
         """The words, now and then with the flags last, or with `--` before the last word."""
-        if self.chance(0.1):
+        if self.form.chance(0.1):
             flags = [word for word in words if word in ("--permanent", "--ignore-liveness")]
             return [word for word in words if word not in flags] + flags
-        return [*words[:-1], "--", words[-1]] if self.chance(0.02) else words
+        return [*words[:-1], "--", words[-1]] if self.form.chance(0.02) else words
 
     def input(self, it: SimpleNamespace) -> bytes:
         """The standard input of a command."""
         return self.body(it) if it.kind in ("import", "replace-runtime") else getattr(it, "payload", b"")
 
-    def odd_words(self, words: list[str]) -> list[str]:
+    def odd_words(self, words: list[str], by: Choices) -> list[str]:
         """The words with one change that most often makes them no command line."""
-        at = self.rng.randint(0, len(words))
-        change = self.rng.randrange(3)
+        at, change = by.number(len(words) + 1), by.number(3)
         if change == 0:
-            return words[:at] + [self.pick(["--flag", "-x", "--owner", "", "x", "--permanent", "--", "-"])] + words[at:]
+            return [*words[:at], by.pick(ODD_WORDS), *words[at:]]
         if change == 1 and len(words) > 1:
             return words[:-1]
-        return self.pick(["profile keep work", "temp stop 1", "serve --connections 2", "lists", ""]).split()
+        return by.pick(["profile keep work", "temp stop 1", "serve --connections 2", "lists", ""]).split()
 
-    def stateless(self) -> tuple[list[str], bytes]:
+    def stateless(self, drawn: Drawn) -> tuple[list[str], bytes]:
         """The words and the standard input of a command that opens no database."""
-        word = self.pick(["who", "text-path", "source-path", "ls"])
+        word, self.form = drawn.aim.pick(["who", "text-path", "source-path", "ls"]), drawn.form
+        self.faults = {drawn.form.pick(FAULTS_OF_STATELESS)}
         if word in ("who", "ls"):
-            return [word], self.archive() if word == "ls" else b""
-        name = self.often(STORE_NAMES, ODD_STORE_NAMES, 0.15)
-        given = self.contents() if word == "text-path" else self.archive()
-        return [word, name, *self.references(4)], given
+            return [word], self.archive(drawn.data) if word == "ls" else b""
+        name = self.often("store name", STORE_NAMES, ODD_STORE_NAMES, drawn.aim)
+        given = self.contents(drawn.data) if word == "text-path" else self.archive(drawn.data)
+        return [word, name, *self.references(drawn.aim)], given
 
-    def common(self, user: str | None, group: str | None) -> list[str]:
-        words = [["--user", user]] * (user is not None and not self.odd(0.01))
+    def common(self, user: str | None, group: str | None, by: Choices) -> list[str]:
+        """The common options that say who asks."""
+        words = [["--user", user]] * (user is not None and not by.chance(0.01))
         words += [["--group", group]] * (group is not None)
-        self.rng.shuffle(words)
-        return [part for pair in words for part in (pair if self.chance(0.7) else [f"{pair[0]}={pair[1]}"])]
+        written = [["=".join(pair)] if by.chance(0.3) else pair for pair in by.turned(words)]
+        return [*itertools.chain(*written)]
+
+    def command(self, drawn: Drawn) -> tuple[list[str], bytes]:
+        """The words of a command after those of its files, and its standard input."""
+        if drawn.aim.chance(0.15):
+            words, given = self.stateless(drawn)
+            user, group = drawn.aim.pick(USERS), drawn.aim.pick([None, "users"])
+        else:
+            it = self.request(drawn, self.kind(drawn, ADDS) if drawn.aim.chance(0.3) else None)
+            words, given, user, group = self.words(it), self.input(it), it.user, it.group
+        if self.form.chance(0.04):
+            words = self.odd_words(words, self.form)
+        return [*self.common(user, group, self.form), *words], given

@@ -5,15 +5,40 @@ import sqlite3
 import subprocess
 import tempfile
 import time
+from collections.abc import Sequence
 from pathlib import Path
 
 from nixkeep_dev.testing.pieces import unread
 from nixkeep_dev.testing.tables import put
 from . import tables
-from .scenarios import FILE, Scenario, Step
+from .commands import Machine
 
+FILE = "store.db"
 SECONDS = 600
 ROOM = "/dev/shm" if os.access("/dev/shm", os.W_OK) else None
+
+
+class Step:
+    """A command: its words, the parts of its standard input, and where this input is cut."""
+
+    def __init__(self, words: list[str], parts: list[bytes], cuts: Sequence[int] = ()):
+        self.words, self.parts, self.cuts = words, parts, cuts
+
+    def input(self) -> bytes:
+        return b"".join(self.parts)
+
+
+class Scenario:
+    """The text of each configuration, the rows of the database, and the steps.
+
+    Rows of no table are no file; None is a file that is no database."""
+
+    def __init__(self, configs: dict[str, bytes], rows: dict[str, set] | None, steps: list[Step]):
+        self.configs, self.rows, self.steps = configs, rows, steps
+
+    def machine(self) -> Machine:
+        """The model before the first step."""
+        return Machine(self.configs, {} if self.rows == {} else {FILE: tables.Database(self.rows)})
 
 
 def make_file(path, rows):

@@ -12,7 +12,7 @@ BENCH = "tools/test_bench"
 # How much of each script is tried, where that isn't all: about a minute of one processor for each.
 BOUNDED = {
     "compare/memory_and_files": ["--count", "10"],
-    "compare/model": ["--count", "2000"],
+    "compare/model": ["--count", "1500"],
     "faults/refuse_memory": ["--count", "30"],
     "faults/stop_writes": ["--count", "8"],
     "faults/fail_streams": ["--count", "12"],
@@ -28,7 +28,7 @@ LONGEST = [TEAM, "tools/test_remote", "gate/cases", "tools/test_overview", "faul
            "faults/stop_writes", "compare/nix_store", "compare/sqlite", "tools/test_explain", "tools/test_cache",
            "tools/test_backup"]
 # What more is tried in the gate, where the proofs take longer anyway.
-MORE = {"compare/model": ["--count", "20000"]}
+MORE = {"compare/model": ["--count", "15000"]}
 # What only the gate tries, since it takes minutes, or has itself what `rt ci` has built: whether it is given the
 # program, and its words.
 OF_GATE = {
@@ -46,7 +46,7 @@ SHORT = {
     "compare/sqlite": ["--count", "2"],
     "tools/test_units": ["-k", "said"],
     BENCH: ["-k", "commands or warning"],
-    "compare/model": ["--count", "500"],
+    "compare/model": ["--count", "400"],
     "faults/refuse_memory": ["--count", "8"],
     "faults/stop_writes": ["--count", "2"],
     "faults/fail_streams": ["--count", "6"],
