@@ -9,8 +9,9 @@
   mistakes   each mistake of tests/gate/mistakes.txt has a wrong body or definition that doesn't survive, or a case, or
              a test in crates
   survivors  each wrong body of tests/gate/survivors.txt is there, and has a reason
+  listed     tests/gate/plants.txt has an entry for each crate of the product, and no other
   by_day     what the gate tries a part of each day, eight days try all of, and nothing of it twice; of wrong bodies and
-             definitions twelve days do
+             definitions twelve days do, and of crates with bodies by `rt plant` as many as there are
   planted    each comparison, each test of the faults and each test of a tool has a planted fault to notice
   counted    there are as many cases, steps, modules, tests, wrong bodies and planted faults as tests/gate/counts.txt
              says; these numbers may only be raised, and --raise writes higher ones there
@@ -30,9 +31,9 @@
   hinted     functions that another module calls have type hints, but for as many as tests/gate/hints.txt says
   clauses    crates/*/src have no more lines of clauses of over 120 characters than tests/gate/clauses.txt says, nor
              crates/*/specs more lines of definitions, no larger part of the clauses has the text of another, no more
-             public functions of the product have no clause on what they return or change, and
-             tests/gate/survivors.txt names no more wrong bodies; these numbers may only be lowered, and --lower writes
-             lower ones there
+             public functions of the product have no clause on what they return or change,
+             tests/gate/survivors.txt names no more wrong bodies, and no more crates lack a list in
+             tests/gate/plants.txt; these numbers may only be lowered, and --lower writes lower ones there
 """
 import ast
 import collections
@@ -44,7 +45,7 @@ import warnings
 from pathlib import Path
 
 from nixkeep_dev.build import program, release
-from nixkeep_dev.sources import bodies, contracts
+from nixkeep_dev.sources import bodies, contracts, plants
 from nixkeep_dev.testing import days, hints, packages, parts, report, sabotage
 from nixkeep_dev.testing.lowered import Lowered, Raised
 from nixkeep_dev.testing.tracked import git, text_of, tracked
@@ -150,12 +151,19 @@ def survivors():
             yield f"{bodies.SURVIVORS}: {line}"
 
 
+def listed():
+    """The crates of the product that the list of bodies by `rt plant` leaves out, and what it names besides."""
+    product = {it for it in program.listed() if it not in NO_PRODUCT}
+    yield from [f"{plants.NAME}: {it}" for it in sorted(product ^ plants.listed().keys())]
+
+
 def by_day():
     """The days of which some together don't try all, or something twice."""
     every, always = {of: [(crate, it.name) for crate, it in bodies.every(of)] for of in (True, False)}, bodies.always()
     tried = {"wrong bodies": ([it for it in every[True] if it not in always], bodies.others_of_day, bodies.DAYS),
              "definitions": ([it for it in every[False] if it not in always], bodies.definitions_of_day, bodies.DAYS),
              "controls": (bodies.having_equal(), bodies.equal_of_day, bodies.DAYS),
+             "bodies by rt plant": (plants.recorded_crates(), plants.of_day, len(plants.recorded_crates())),
              "planted faults": ([it.name for it in sabotage.table()],
                                 lambda day: [it.name for it in sabotage.of_day(day)], days.DAYS)}
     for what, (meant, of_day, count) in tried.items():
@@ -366,8 +374,8 @@ def without_clauses():
 
 
 def counted_clauses():
-    """How many lines of clauses are long, what part of all clauses has the text of another, in percent, and how many
-    wrong bodies survive them."""
+    """How many lines of clauses are long, what part of all clauses has the text of another, in percent, how many wrong
+    bodies survive them, and for how many crates no list says which bodies by `rt plant` do."""
     found = [lines for path in git("ls-files", "crates/*/src/*.rt") for lines in clauses_in(text_of(path))]
     counts = collections.Counter(" ".join(line.strip() for line in lines) for lines in found)
     repeated = sum(count for count in counts.values() if count > 1)
@@ -377,7 +385,8 @@ def counted_clauses():
                                                              for line in defined),
             "percent of clauses that are repeated": round(100 * repeated / len(found), 1),
             "public functions without clauses": without_clauses(),
-            "wrong bodies that they accept": len(bodies.excused(bodies.SURVIVORS))}
+            "wrong bodies that they accept": len(bodies.excused(bodies.SURVIVORS)),
+            "crates whose bodies by rt plant are not recorded": list(plants.listed().values()).count(None)}
 
 
 def clauses():
@@ -399,8 +408,9 @@ def compiled(path):
     return [f"{path}:{it.lineno}: {it.message}" for it in said]
 
 
-CHECKS = [handles, machine, citations, sources, allowed, crates, mistakes, survivors, by_day, planted, counted, wanted,
-          tabled, routed, executable, released, versions, packages_named, scripts, imports, columns, hinted, clauses]
+CHECKS = [handles, machine, citations, sources, allowed, crates, mistakes, survivors, listed, by_day, planted, counted,
+          wanted, tabled, routed, executable, released, versions, packages_named, scripts, imports, columns, hinted,
+          clauses]
 
 
 def more(parser):

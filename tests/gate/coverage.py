@@ -5,14 +5,24 @@ Runs the tests of the tools and of the deployment, with each Python process that
 lines may only rise: tests/gate/coverage.txt has the number, and --raise writes a higher one there. Tests that fail
 fail here too, after a second run, since a machine may be busy. No other command runs it, since it takes longer than all
 these tests without it. With NAMES, such as `words`, it runs these tests alone, and compares no number.
+
+A process sends its lines to a socket (dev/nixkeep_dev/testing/measured.py), also where it ends by a signal, or has a
+full disk. What a process ran that a test kills isn't counted.
 """
+import collections
+import contextlib
+import json
 import os
 import re
+import shutil
+import socketserver
 import subprocess
+import threading
+from collections.abc import Iterator
 from concurrent.futures import ThreadPoolExecutor
 from pathlib import Path
 
-from nixkeep_dev.testing import parts, report, sabotage
+from nixkeep_dev.testing import measured, parts, report, sabotage
 from nixkeep_dev.testing.lowered import Raised
 from nixkeep_dev.testing.runs import command, options_of, scripts, spent
 
@@ -32,14 +42,44 @@ def copied(top):
     return top
 
 
-def prepare(folder, top):
+class Lines(socketserver.ThreadingUnixStreamServer):
+    """A socket to which processes say which lines of which files they ran."""
+
+    daemon_threads, request_queue_size = True, 1000
+
+    def __init__(self, place: str):
+        self.found, self.lock = collections.defaultdict(set), threading.Lock()
+        super().__init__(place, socketserver.StreamRequestHandler)
+
+    def finish_request(self, request, _):
+        with request.makefile("rb") as said, contextlib.suppress(ValueError):
+            files = json.load(said)
+            with self.lock:
+                for file, lines in files.items():
+                    self.found[file].update(lines)
+
+
+@contextlib.contextmanager
+def listening(place: str) -> Iterator[Lines]:
+    with Lines(place) as lines:
+        threading.Thread(target=lines.serve_forever, daemon=True).start()
+        yield lines
+        lines.shutdown()
+
+
+def prepare(folder: str, top: str) -> dict[str, str]:
     """The environment in which each process of Python is measured."""
     os.makedirs(f"{folder}/path")
     os.symlink(COVERAGE, f"{folder}/path/coverage")
-    Path(f"{folder}/path/sitecustomize.py").write_text("import coverage\ncoverage.process_startup()\n")
-    Path(f"{folder}/settings").write_text(f"[run]\nsource = {top}/tools\nparallel = true\nsigterm = true\n"
-                                          f"data_file = {folder}/data\n")
-    return {**os.environ, "PYTHONPATH": f"{folder}/path", "COVERAGE_PROCESS_START": f"{folder}/settings"}
+    shutil.copy(measured.__file__, f"{folder}/path/measured.py")
+    begun = f"import measured\nmeasured.begin({place_in(folder)!r}, {f'{top}/tools'!r})\n"
+    Path(f"{folder}/path/sitecustomize.py").write_text(begun)
+    return {**os.environ, "PYTHONPATH": f"{folder}/path"}
+
+
+def place_in(folder: str) -> str:
+    """The socket to which processes say their lines, where the folder is that of a measurement."""
+    return f"{folder}/lines"
 
 
 def tests_of(top, named):
@@ -65,12 +105,18 @@ def run_tests(names, given, environment, jobs):
         return [it for it in pool.map(one, names) if it]
 
 
-def measured(folder, top):
+# Prints the report of coverage for the lines of files, which it reads.
+REPORT = """import coverage, json, sys
+found = coverage.Coverage(data_file=None, config_file=False, messages=False)
+found.get_data().add_lines(json.load(sys.stdin))
+found.report()"""
+
+
+def percents(lines: dict[str, set[int]], top: str) -> tuple[int, list[tuple[str, float]]]:
     """The percent of the lines that ran, of all and of each module, the least first."""
-    words = ["/usr/bin/python3", "-m", "coverage"]
     how = {"cwd": top, "stdout": subprocess.PIPE, "stderr": subprocess.STDOUT, "text": True}
-    subprocess.run([*words, "combine", f"--rcfile={folder}/settings", folder], **how)
-    told = subprocess.run([*words, "report", f"--rcfile={folder}/settings"], **how).stdout
+    given = json.dumps({file: sorted(of_file) for file, of_file in lines.items()})
+    told = subprocess.run(["/usr/bin/python3", "-c", REPORT], input=given, **how).stdout
     rows = re.findall(r"^(\S+) +(\d+) +(\d+) +(\d+)%", told, re.M)
     if not rows:
         report.fail(f"coverage measured nothing: {told[-1000:]}")
@@ -91,12 +137,14 @@ def run(words):
     names = tests_of(top, words.names)
     if not names:
         report.fail("no test has this name")
-    failed = run_tests(names, {"program": file, "seed": words.seed}, prepare(folder, top), words.jobs)
+    environment = prepare(folder, top)
+    with listening(place_in(folder)) as lines:
+        failed = run_tests(names, {"program": file, "seed": words.seed}, environment, words.jobs)
     report.passes(len(names) - len(failed))
     for text in failed:
         report.failure(f"a test fails where it is measured: {text}")
     report.tell(f"{spent() / 60:.1f} processor minutes")
-    percent, modules = measured(folder, top)
+    percent, modules = percents(lines.found, top)
     for name, part in modules:
         report.tell(f"{part:5.1f} % of {name.removeprefix(top + '/')}")
     if words.names:

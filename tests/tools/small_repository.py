@@ -11,7 +11,8 @@ from nixkeep_dev.build.program import HERE
 CRATES = {"low": [], "left": ["low"], "right": ["low"], "join": ["low", "left", "right"], "nixkeep": ["join"]}
 # One that the program doesn't need.
 ASIDE = {"aside": ["low"]}
-# A rattle that logs what it is asked, and when; it fails for a crate that the folder of the log names.
+# A rattle that logs what it is asked, and when; it fails for a crate that the folder of the log names, and goes on as
+# long as one is held there.
 RATTLE = '''#!/usr/bin/env python3
 import os, sys, time
 from pathlib import Path
@@ -23,6 +24,8 @@ open(f"{top}/words-{crate}", "w").write(" ".join(words[1:]))
 externs = [word.partition("=")[2] for at, word in enumerate(words) if words[at - 1] == "--extern"]
 lacking = [it for it in externs if "/rlibs/" not in it and not Path(it, "format").is_file()]
 time.sleep(float(dict(it.split("=") for it in os.environ["STAND_IN_SECONDS"].split()).get(crate, "0.2")))
+while Path(top, f"holds-{crate}").exists():
+    time.sleep(0.05)
 if lacking or Path(top, f"fails-{crate}").exists():
     print(f"error: {crate} isn't proved", *lacking)
     sys.exit(1)

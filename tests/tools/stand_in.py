@@ -42,7 +42,8 @@ def answering(program: str, folder: str) -> Iterator[tuple[str, str]]:
     with socket.socket(socket.AF_UNIX) as made, open(log, "wb"):
         made.bind(path)
         made.listen(100)
-        where = {"cwd": HERE, "env": {**os.environ, "PYTHONPATH": f"{HERE}:{HERE}/dev:{HERE}/tools"}}
+        path = ":".join(filter(None, [HERE, f"{HERE}/dev", f"{HERE}/tools", os.environ.get("PYTHONPATH")]))
+        where = {"cwd": HERE, "env": {**os.environ, "PYTHONPATH": path}}
         how = {"stdin": subprocess.DEVNULL, "pass_fds": [made.fileno()], "start_new_session": True}
         words = [sys.executable, "-B", "-c", script, str(made.fileno()), program, log]
         listening = subprocess.Popen(words, **how, **where)

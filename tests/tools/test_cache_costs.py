@@ -18,8 +18,8 @@ import parts
 from nixkeep_dev.testing import nar
 from nixkeep_tools import blob_packing, cache_ending, cache_large, cache_records, cache_shares, cache_sweep, drv
 from nixkeep_tools import cache_changes, cache_http, cache_limit, cache_listings, cache_metrics, cache_names
-from nixkeep_tools import cache_overview, cache_passing, cache_room, cache_server, cache_watched, overview_day
-from nixkeep_tools import overview_source, store_file
+from nixkeep_tools import cache_overview, cache_passing, cache_room, cache_server, cache_uploads, cache_watched
+from nixkeep_tools import overview_day, overview_source, store_file
 from parts import body
 from tests.tools.cached import ask
 
@@ -241,6 +241,19 @@ def test_heads_of_large_imports_have_room(folder):
     finally:
         cache_large.class_of = kept
     assert (denied, len(reading)) == ([403] * 5, 3)
+
+
+def test_long_records_are_read_in_a_thread():
+    """Others go on meanwhile: here the reading of one ends only once they have."""
+    others, uploads = threading.Event(), cache_uploads.Uploads(*[None] * 10)
+
+    async def run():
+        reading = asyncio.ensure_future(uploads.read("ann", lambda _: others.wait(5), bytes(cache_http.LARGE + 1)))
+        await asyncio.sleep(0)
+        others.set()
+        return await reading
+
+    assert asyncio.run(run())
 
 
 def takes_linear_time(work, sizes=(20_000, 160_000)):

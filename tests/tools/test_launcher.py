@@ -5,11 +5,11 @@ failure or a signal; a change of a crate proves it anew, with those above; two r
 tests/gate/launched.py notices another byte. Needs git, and no toolchain.
 """
 import os
+import select
 import shutil
 import signal
 import subprocess
 import tempfile
-import threading
 import time
 from pathlib import Path
 
@@ -135,18 +135,19 @@ def test_a_signal(proved, number):
 
 
 def test_two_runs_prove_each_crate_once(proved):
+    """The one goes on until the other waits for it."""
     proved.write("crates/low/src/lib.rt", "// for two\n")
-    other = []
-    # (the first of the two still runs when the second looks)
-    start = lambda: proved.start(seconds="low=3")
-    second = threading.Thread(target=lambda: other.append(start().communicate()))
     Path(f"{proved.room}/log").unlink(missing_ok=True)
-    second.start()
-    out, said = start().communicate()
-    second.join()
-    assert [out, other[0][0]] == [ANSWER] * 2
+    Path(f"{proved.room}/holds-low").touch()
+    two, said = [proved.start(), proved.start()], ""
+    while "waiting for it" not in said:
+        ready = select.select([it.stderr for it in two], [], [], 300)[0]
+        more = os.read(ready[0].fileno(), 10_000).decode() if ready else ""
+        assert more, said
+        said += more
+    os.remove(f"{proved.room}/holds-low")
+    assert [it.communicate()[0] for it in two] == [ANSWER] * 2
     assert started(proved.log()) == sorted(CRATES)
-    assert "waiting for it" in said + other[0][1]
 
 
 @pytest.mark.parametrize("text, line", [("exit 1", "no Rattle toolchain"), ("echo rattle-kit-1", "rattle-kit-1"),

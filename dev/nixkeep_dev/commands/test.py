@@ -6,7 +6,8 @@
   bin/test all                  what .ci/run does: the checks of the repository, the proofs of all crates from scratch,
                                 their tests and programs, a comparison of the program with the released one, and then
                                 all of the above on the program that was built, the wrong bodies and definitions of
-                                tests/gate/mistakes.txt, and by the day others of these and planted faults
+                                tests/gate/mistakes.txt, and by the day others of these, planted faults, and the wrong
+                                bodies that `rt plant` makes of a crate
   bin/test cases [CASE..]       the cases: command lines and what they print
   bin/test compare [NAME..]     the program next to Nix, SQLite, curl, itself and a model of it
   bin/test faults [NAME..]      refused memory, failing streams, stops at each write, cut heads, hostile clients: all
