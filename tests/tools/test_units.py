@@ -404,12 +404,13 @@ def test_a_service_that_was_taken_over(machine):
     for line, said in HOSTILE.items():
         at = f"setpriv --reuid={user_of(machine)} --regid={user_of(machine)} --clear-groups sh -c '{line}'"
         machine(f"{folder}; mv store.db kept.db; {at}")
-        status = machine("timeout 60 systemctl start --wait nixkeep-backup@red")[0]
-        machine(f"{folder}; rm -rf store.db; mv kept.db store.db")
+        # (systemd refuses a sixth start within ten seconds)
+        start = "timeout 60 systemctl start --wait nixkeep-backup@red"
+        status = machine(f"systemctl reset-failed nixkeep-backup@red; {start}")[0]
+        machine(f"{folder}; rm -rf store.db; mv kept.db store.db; journalctl --sync")
         lines = machine.output("journalctl -u nixkeep-backup@red -o cat | grep 'failed: ' | tail -n 1")
         assert status == 1 and f"{said}: the server isn't stopped" in lines, (line, status, lines)
     assert machine.output(main) == before, "the server goes on"
-    # (systemd refuses a sixth start within ten seconds)
     copied = machine("systemctl reset-failed nixkeep-backup@red; systemctl start --wait nixkeep-backup@red")
     assert copied[0] == 0, ("and is copied again", copied)
     machine("until systemctl is-active --quiet nixkeep@red; do sleep 0.3; done")

@@ -109,17 +109,18 @@ class Reply:
             if left:
                 raise self.server.gone(f"the connection ended {left} bytes before the end of the answer")
 
-    def bounded(self, most: int = MOST_OF_REPLY) -> Iterator[bytes]:
-        """Yields the bytes of a text that is read whole. Raises Stop for one that has more than `most`, or no end."""
-        size = 0
+    def bounded(self, most: int | None = None) -> Iterator[bytes]:
+        """Yields the bytes of a text that is read whole. Raises Stop for one that has more than `most` (else 256 MiB),
+        or no end."""
+        size, most = 0, MOST_OF_REPLY if most is None else most
         for part in self.parts():
             size += len(part)
             if size > most:
                 raise Stop(f"failed: answer: {self.server.place.url}: it has more than {most} bytes")
             yield part
 
-    def text(self, most: int = MOST_OF_REPLY) -> str:
-        """The text whole, of `most` bytes."""
+    def text(self, most: int | None = None) -> str:
+        """The text whole, of at most as many bytes as `bounded` yields."""
         return b"".join(self.bounded(most)).decode("utf-8", "backslashreplace")
 
     def refusal(self) -> int | None:
