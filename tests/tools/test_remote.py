@@ -87,11 +87,14 @@ def test_words_of_the_help():
     assert [it.name for it in subcommands.COMMANDS if f"\n  {it.name} ".encode() not in output] == []
 
 
-def test_what_takes_long_to_load_is_not_loaded():
+@pytest.mark.parametrize("line", ["--help", "who", "list", "report", "add-text|x", "cat-nar|x", "gc"])
+def test_what_takes_long_to_load_is_not_loaded(line, program):
     """Each of these takes milliseconds, and a request takes less than one."""
-    words = ["/usr/bin/python3", "-ES", "-X", "importtime", REMOTE, "--help"]
-    lines = subprocess.run(words, stdout=subprocess.DEVNULL, stderr=subprocess.PIPE, text=True, check=True).stderr
-    loaded = {line.rpartition("|")[2].strip() for line in lines.splitlines()}
+    words = ["/usr/bin/python3", "-ES", "-X", "importtime", REMOTE]
+    with servers.server(program) as port:
+        words += ["--server", f"http://127.0.0.1:{port}", "--as", "root", *line.split("|")]
+        lines = ran(words)[2].decode().splitlines()
+    loaded = {it.rpartition("|")[2].strip() for it in lines}
     assert "nixkeep_tools.http_client" in loaded
     assert not loaded & {"argparse", "collections", "email", "enum", "http.client", "pathlib", "re", "socket", "ssl",
                          "tempfile", "typing"}

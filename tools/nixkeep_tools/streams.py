@@ -15,6 +15,8 @@ if TYPE_CHECKING:
 CHUNK = 65_536
 # Bytes of an input from a pipe that are held in memory; a longer one is held in a file.
 IN_MEMORY = 1_048_576
+# The bytes of a text that are shown as they are.
+PLAIN = b"\n" + bytes(range(32, 127))
 
 
 def keep_closed() -> None:
@@ -45,12 +47,11 @@ def printable(text: str) -> str:
 
 def shown(parts: Iterable[bytes]) -> Iterator[bytes]:
     """Yields the bytes of a text of a server, which is ASCII, with each byte that doesn't print as an escape: others
-    may be meant for a terminal."""
-    import re
-
-    odd = re.compile(rb"[^\n -~]")
+    may be meant for a terminal. (re takes longer to load than all else.)"""
     for part in parts:
-        yield odd.sub(lambda it: b"\\x%02x" % it[0][0], part)
+        for odd in {*part.translate(None, PLAIN)}:
+            part = part.replace(bytes([odd]), b"\\x%02x" % odd)
+        yield part
 
 
 def say(line: str) -> bool:
