@@ -5,12 +5,13 @@
             nixkeep-remote and by curl over a server that runs; such a server is open, so no client waits for that.
             Then the exponent by which the time of each grows from one number of objects to the last: 1 is in
             proportion, 2 is quadratic
+  tls       a query by nixkeep-remote through nginx that terminates TLS, next to curl with the same certificate
   archives  an archive of 16 MiB out, next to `cat`, sha256sum and `nix-store --dump`
 
 Each is timed from the start of the process to its end. nixkeep-remote is the one that bin/install installs: it runs by
 Debian's python3, and its modules are compiled. Nix deletes and reads files where nixkeep has rows. What isn't
-installed (Debian: nix-bin, curl) is skipped, which is printed. With --large, 100,000 objects too, in three rounds, and
-with --quick 100 and 1,000 alone. Needs SQLite 3.37 or later.
+installed (Debian: nix-bin, curl, nginx-light, openssl) is skipped, which is printed. With --large, 100,000 objects too,
+in three rounds, and with --quick 100 and 1,000 alone. Needs SQLite 3.37 or later.
 """
 import collections
 import contextlib
@@ -21,19 +22,23 @@ import statistics
 import subprocess
 from pathlib import Path
 
-from nixkeep_dev.bench.figures import MIB, ROUNDS, command, exponent, limit, main, program, skipped, title, versus
+from nixkeep_dev.bench.figures import MIB, ROUNDS, command, commands, exponent, limit, main, program, skipped
+from nixkeep_dev.bench.figures import title, versus
 from nixkeep_dev.bench.load import SERVER
+from nixkeep_dev.bench.nginx import nginx
 from nixkeep_dev.bench.serving import served
 from nixkeep_dev.bench.sqlite import base, filled
 from nixkeep_dev.build.program import HERE
 from nixkeep_dev.testing import report
-from nixkeep_dev.testing.http_messages import lines
+from nixkeep_dev.testing.http_messages import free_port, lines
 from nixkeep_dev.testing.nar import STORE, archive
 from nixkeep_dev.testing.nix import Nix
 from nixkeep_dev.testing.requests import text
 
 # Up to this number of objects a command has to be faster than Nix's; over a server each number of them.
 BY_COMMAND = 10_000
+# The most seconds of a subcommand by nixkeep-remote over http, and how many times as long as curl one takes over https.
+REMOTE, OVER_TLS = 0.022, 1.3
 EVAL = "nix-instantiate", "--eval", "--read-write-mode", "-E"
 
 
@@ -230,12 +235,47 @@ def actions(run, words, folder):
     for way, (_, what) in WAYS.items():
         exponents(found, way, what)
     exponents(found, "nix", "by Nix", False)
+    title(f"{sizes[0]} objects, the subcommands by nixkeep-remote")
+    limit("the slowest of them", max(map(statistics.median, found[sizes[0]]["remote"].values())), REMOTE)
     title("what clients take that ask for nothing")
     python = Path(run.remote).read_text().partition("\n")[0].removeprefix("#!").split()
     limit("python3", seconds([*python, "-c", "pass"]), None, of=statistics.median)
     limit("nixkeep-remote", seconds([run.remote, "--help"]), None, of=statistics.median)
     if words.has_curl:
         limit("curl", seconds(["curl", "--version"]), None, of=statistics.median)
+
+
+# ---- TLS
+
+
+def certificate(folder):
+    """A certificate for this machine that signs itself, and its key."""
+    pair = f"{folder}/cert.pem", f"{folder}/key.pem"
+    words = "openssl req -x509 -newkey rsa:2048 -nodes -days 2 -subj /CN=127.0.0.1".split()
+    words += ["-addext", "subjectAltName=IP:127.0.0.1", "-out", pair[0], "-keyout", pair[1]]
+    subprocess.run(words, stderr=subprocess.DEVNULL, check=True)
+    return pair
+
+
+def tls(run, words, folder):
+    if skipped("nginx", "openssl", "curl"):
+        return
+    (cert, key), port = certificate(folder), free_port()
+    path = filled(run, f"{folder}/tls.db", 100, 1024, 3)
+    with served(run, path, SERVER) as store:
+        secure = f"server {{ listen 127.0.0.1:{port} ssl; ssl_certificate {cert}; ssl_certificate_key {key}; "
+        secure += f"location / {{ proxy_pass http://127.0.0.1:{store.port}; }} }}"
+        with nginx(folder, "return 204;", secure):
+            at, named = f"https://127.0.0.1:{port}", ["--cacert", cert, "--header", "store-user: root"]
+            each = {"remote": [run.remote, "--server", at, "--ca", cert, "--as", "root", "info", base(7)],
+                    "curl": ["curl", "--silent", "--fail", *named, f"{at}/info/{base(7)}"]}
+            found = {name: times for name, (times, _) in commands(each, 3 * ROUNDS).items()}
+    title("a query by nixkeep-remote over https")
+    what, of = "next to curl with the same certificate", statistics.median
+    versus(what, found["curl"], found["remote"], OVER_TLS, "curl", of)
+
+
+# ---- archives
 
 
 def archives(run, words, folder):
@@ -269,4 +309,4 @@ def more(asked):
 
 
 if __name__ == "__main__":
-    main(__doc__, [actions, archives], begin, more)
+    main(__doc__, [actions, tls, archives], begin, more)

@@ -1,15 +1,18 @@
-"""Measures many readers of one store: nginx as the proxy of one copy of the file, and of three, without its cache
-and with it.
+"""Measures many readers of one store: nixkeep-cache alone, and nginx as the proxy of one copy of the file, and of
+three, without its cache and with it.
 
+  alone       nixkeep-cache without nginx, next to a server on the same aiohttp that answers everything at once
   one, three  how many copies there are
 
-Each copy has a server and a nixkeep-cache of its own. nginx keeps what it has as in examples/team. 64 clients of wrk
-ask for records and archives of 10,000 objects in turn: first without a cache, then with all of them in nginx's cache,
-then for archives of which nginx asks every two seconds whether they are still there, and last for records that are kept
-for two seconds, while the servers of the stores are stopped for ten seconds. Prints requests a second, the 99th
-percentile, replies that weren't 200, and the processor time of the servers meanwhile. Needs the Debian packages
-nginx-light, wrk and python3-aiohttp; all is skipped where one is missing, and it says so. There is no TLS and no
-password: these cost nginx, not the store. With --quick, there are 1,000 objects, and each run takes two seconds.
+Each copy has a server and a nixkeep-cache of its own. nginx asks them as in examples/team, with a connection for each
+request at a Unix socket, keeps what it has as there, and asks whether the reader may connect. 64 clients of wrk ask for
+records and archives of 10,000 objects in turn: first without a cache, then with all of them in nginx's cache, next to
+nginx that has them as files, then for archives of which nginx asks every two seconds whether they are still there, and
+last for records that are kept for two seconds, while the servers of the stores are stopped for ten seconds. Prints
+requests a second, the 50th and the 99th percentile, replies that weren't 200, and the processor time of the servers
+meanwhile. Needs the Debian packages nginx-light, wrk and python3-aiohttp; all is skipped where one is missing, and it
+says so. There is no TLS and no password: these cost nginx, not the store. With --quick, there are 1,000 objects, and
+each run takes two seconds.
 """
 import contextlib
 import http.client
@@ -24,20 +27,37 @@ from concurrent.futures import ThreadPoolExecutor
 from pathlib import Path
 
 import parts
-from nixkeep_dev.bench.figures import limit, main, skipped, title
+from nixkeep_dev.bench.figures import limit, main, put, skipped, title, versus
 from nixkeep_dev.bench.load import Load
-from nixkeep_dev.bench.nginx import KEPT, nginx
-from nixkeep_dev.bench.serving import processor_of
+from nixkeep_dev.bench.nginx import nginx
+from nixkeep_dev.bench.serving import Serving, processor_of
 from nixkeep_dev.testing import report
+from nixkeep_dev.testing.http_messages import free_port
 
-AWAY = 10
-COPIES = """upstream copies {{ {copies} keepalive 16; }}
+AWAY, CLIENTS = 10, 64
+# The least requests a second of nixkeep-cache alone, the least part of what nginx does with files, and how many times
+# as long as half of the clients one in a hundred may wait.
+ALONE, OF_FILES, FAIR = 6000, 0.8, 5
+COPIES = """upstream copies {{ {copies} }}
     proxy_cache_path kept levels=1:2 keys_zone=kept:20m max_size=10g use_temp_path=off;"""
-CACHED = f"""{KEPT} proxy_set_header store-user reader;
-        proxy_cache {{zone}}; proxy_cache_key $request_uri; proxy_cache_lock on; proxy_cache_revalidate on;
-        proxy_ignore_headers cache-control; proxy_cache_valid 200 {{kept}}; proxy_pass http://copies;"""
+CACHED = """proxy_http_version 1.1; proxy_set_header store-user reader; auth_request /may-connect;
+        proxy_cache {zone}; proxy_cache_key $request_uri; proxy_cache_lock on; proxy_cache_revalidate on;
+        proxy_ignore_headers cache-control; proxy_cache_valid 200 {kept}; proxy_pass http://copies; }}
+    location = /may-connect {{ internal; proxy_cache kept; proxy_cache_key may-connect; proxy_cache_valid 200 403 1m;
+        proxy_ignore_headers cache-control; proxy_pass_request_body off; proxy_set_header content-length "";
+        proxy_set_header store-user reader; proxy_pass http://copies/nix-cache-info;"""
+# A server on aiohttp with one handler, which has nothing to do: the most that a server on it can reach.
+BARE = """
+import sys
+from aiohttp import web
+async def answer(_): return web.Response(body=b"x" * 400, headers={"content-type": "text/x-nix-narinfo"})
+app = web.Application()
+app.router.add_route("*", "/{target:.*}", answer)
+web.run_app(app, host="127.0.0.1", port=int(sys.argv[1]), print=None, access_log=None)
+"""
 # Each thread of wrk begins elsewhere in the list.
 LUA = """
+wrk.headers["store-user"] = "reader"
 local targets, at, threads = {{}}, 0, 0
 for line in io.lines("{file}") do targets[#targets + 1] = line end
 function setup(thread) thread:set("first", threads * math.floor(#targets / 2)); threads = threads + 1 end
@@ -55,31 +75,41 @@ def asked(folder, port, targets, seconds):
     """A run of wrk, which asks for these in turn."""
     Path(f"{folder}/targets").write_text("".join(f"{it}\n" for it in targets))
     Path(f"{folder}/ask.lua").write_text(LUA.format(file=f"{folder}/targets"))
-    return Load(port, clients=64, seconds=seconds, script=f"{folder}/ask.lua")
+    return Load(port, clients=CLIENTS, seconds=seconds, script=f"{folder}/ask.lua")
 
 
-def show(what, load, seconds):
-    """The figures of a run. Each reply has to be 200, also while the servers are away."""
-    limit(f"{what}: each second", load.rate, None, "requests")
-    limit(f"{what}: 99th percentile", load.percentiles[99], None)
+def show(what, load, seconds, least=None, is_fair=True, peer=None):
+    """The figures of a run, its rate next to that of a peer. Each reply has to be 200, also while the servers are
+    away."""
+    more = {"spread": None}
+    if peer:
+        more |= {"peer": peer[0], "theirs": peer[1].rate, "ratio": load.rate / peer[1].rate}
+    put(f"{what}: requests", load.rate, "a second", least, more, is_least=True)
+    half, last = load.percentiles[50], load.percentiles[99]
+    limit(f"{what}: 50th percentile", half, None)
+    versus(f"{what}: 99th percentile", half, last, FAIR if is_fair else None, "the 50th")
     limit(f"{what}: replies that aren't 200 or didn't come", load.wrong, 0, "requests")
     limit(f"{what}: processor time of the servers", seconds, None)
 
 
 def cached(folder, copies, kept, zone):
     """nginx with an empty cache, as the proxy of the copies."""
-    places = " ".join(f"server 127.0.0.1:{cache.place};" for _, cache in copies)
+    places = " ".join(f"server unix:{cache.place};" for _, cache in copies)
     return nginx(folder, CACHED.format(zone=zone, kept=kept), COPIES.format(copies=places), 2)
 
 
-def fill(port, targets):
-    """Asks for each target once, so that nginx has all of them."""
+def fill(port, targets, folder=None):
+    """Asks for each target once, so that nginx has all of them. Writes each reply as a file below the folder."""
 
     def ask(some):
         connection = http.client.HTTPConnection("127.0.0.1", port)
         for it in some:
             connection.request("GET", it)
-            connection.getresponse().read()
+            text = connection.getresponse().read()
+            if folder:
+                file = Path(f"{folder}{it}")
+                file.parent.mkdir(parents=True, exist_ok=True)
+                file.write_bytes(text)
 
     with ThreadPoolExecutor(8) as pool:
         list(pool.map(ask, [targets[at::8] for at in range(8)]))
@@ -97,15 +127,21 @@ def measured(folder, copies, wanted, seconds):
     for what, targets in wanted.items():
         for how, zone in (("no cache", "off"), ("all in nginx's cache", "kept")):
             with cached(folder, copies, "1h", zone) as front:
-                fill(front.port, targets)
+                fill(front.port, targets, f"{folder}/files")
                 before = processor(copies)
                 out = asked(folder, front.port, targets, seconds)
-                show(f"{what}, {how}", out, processor(copies) - before)
+                spent = processor(copies) - before
+            if zone == "off":
+                show(f"{what}, {how}", out, spent)
+                continue
+            with nginx(folder, f"root {folder}/files;", workers=2) as files:
+                theirs = asked(folder, files.port, targets, seconds)
+            show(f"{what}, {how}", out, spent, OF_FILES, peer=("nginx, files", theirs))
     with cached(folder, copies, "2s", "kept") as front:
         fill(front.port, wanted["archives"])
         before = processor(copies)
         out = asked(folder, front.port, wanted["archives"], seconds)
-        show("archives, confirmed every 2 s", out, processor(copies) - before)
+        show("archives, confirmed every 2 s", out, processor(copies) - before, is_fair=False)
     with cached(folder, copies, "2s", "kept") as front:
         fill(front.port, wanted["records"])
         away(folder, copies, front.port, wanted["records"], seconds)
@@ -128,26 +164,48 @@ def away(folder, copies, port, targets, seconds):
     other.start()
     out = asked(folder, port, targets, seconds + AWAY)
     other.join()
-    show("records kept for 2 s, ten seconds without servers", out, sum(spent) + processor(copies))
+    show("records kept for 2 s, ten seconds without servers", out, sum(spent) + processor(copies), is_fair=False)
+
+
+def put_store(words, folder):
+    """Makes the store's file and its configuration."""
+    parts.put_store(f"{folder}/store.db", words.objects, random.Random(1), 3)
+    Path(f"{folder}/store.toml").touch()
 
 
 def copies_of(words, count):
     """`count` copies of one file, each with its servers, and what clients get of them."""
-    objects, seconds = (1000, 2) if words.quick else (words.objects, words.seconds)
     with tempfile.TemporaryDirectory() as folder, contextlib.ExitStack() as running:
-        parts.put_store(f"{folder}/store.db", objects, random.Random(1), 3)
-        Path(f"{folder}/store.toml").touch()
+        put_store(words, folder)
         copies = []
         for at in range(count):
             place = f"{folder}/{at}"
             os.makedirs(place)
             shutil.copy(f"{folder}/store.db", place)
             server = parts.server(words.file, place, f"{folder}/store.toml", f"{place}/store.db")
-            copies.append((server, parts.cache(place, server.place)))
+            copies.append((server, parts.cache(place, server.place, f"{place}/socket")))
             for it in copies[-1]:
                 running.enter_context(it)
-        title(f"64 clients through nginx over {count} {'copy' if count == 1 else 'copies'} of {objects:,} objects")
-        measured(folder, copies, targets_of(f"{folder}/store.db"), seconds)
+        named = f"{count} {'copy' if count == 1 else 'copies'}"
+        title(f"{CLIENTS} clients through nginx over {named} of {words.objects:,} objects")
+        measured(folder, copies, targets_of(f"{folder}/store.db"), words.seconds)
+
+
+def alone(_, words, folder):
+    put_store(words, folder)
+    targets = targets_of(f"{folder}/store.db")
+    port = free_port()
+    with Serving(port, "/usr/bin/python3", "-c", BARE, str(port)):
+        theirs = asked(folder, port, targets["records"], words.seconds)
+    title(f"{CLIENTS} clients of nixkeep-cache alone over {words.objects:,} objects")
+    with parts.server(words.file, folder, f"{folder}/store.toml", f"{folder}/store.db") as server, \
+            parts.cache(folder, server.place) as cache:
+        for what, asked_for in targets.items():
+            before = processor([(server, cache)])
+            out = asked(folder, cache.place, asked_for, words.seconds)
+            show(what, out, processor([(server, cache)]) - before, ALONE if what == "records" else None)
+            at_once = f"{what}: next to aiohttp that answers at once"
+            versus(at_once, theirs.rate, out.rate, None, "that", max, "a second")
 
 
 def one(_, words, folder):
@@ -165,9 +223,11 @@ def options(asked):
 
 def begin(words):
     words.file = report.program_file(words)
+    if words.quick:
+        words.objects, words.seconds = 1000, 2
     if skipped("nginx", "wrk", "python3-aiohttp"):
         words.parts = []
 
 
 if __name__ == "__main__":
-    main(__doc__, [one, three], begin, options)
+    main(__doc__, [alone, one, three], begin, options)

@@ -7,7 +7,9 @@ Chosen = collections.namedtuple("Chosen", "label bench section what peer", defau
 KIB = "`list` on {} objects of 1,024 bytes with 3 references each"
 HUNDRED = "`list` on 100 objects of 1,048,576 bytes.*"
 FOLDER, BUCKET = ".* nixkeep-cache, in a folder", ".* nixkeep-cache, in a bucket of Swift"
-MANY = r"GET /info/{{path}} over 10,000 objects through nginx, {} clients?"
+MANY = r"GET /info/{path} over 10,000 objects through nginx, 64 clients"
+ALONE, BEHIND = "64 clients of nixkeep-cache alone .*", "64 clients through nginx over 1 copy .*"
+REFERRED = "a path with ten referrers, of 100,000 objects"
 FIGURES = [
     Chosen("a command without a store (`who`)", "commands", "who, from the start.*", "time"),
     Chosen("`text-path` of 16 MiB", "commands", "text-path, over 16 MiB.*", "time"),
@@ -23,6 +25,14 @@ FIGURES = [
            "for each object with 3 references"),
     Chosen("1,000 small adds to a server, each with its sync", "requests", "1,000 adds of .*", "time"),
     Chosen("`GET /live` of 5,000 objects", "requests", "5,000 objects .*", "GET /live"),
+    Chosen("`why` of a path with ten referrers, of 100,000 objects", "questions", REFERRED, "GET /roots-of/{path}"),
+    Chosen("`delete` of such a path and of these", "questions", REFERRED, "POST /delete, of it and of these"),
+    Chosen("`why` of one to which all refer", "questions", "a path to which all of 100,000 .*", "GET /roots-of/{path}"),
+    Chosen("`nixkeep-remote` over http, the slowest subcommand", "nix", "100 objects, the subcommands by .*",
+           "the slowest of them"),
+    Chosen("python3 that does nothing", "nix", "what clients take that ask for nothing", "python3"),
+    Chosen("`nixkeep-remote` over https, a query", "nix", "a query by nixkeep-remote over https",
+           "next to curl with the same certificate"),
     Chosen("an add of 16 MiB to a server", "requests", ".*archive of a file, to a store in a file", "time"),
     Chosen("memory of a server after that", "requests", ".*archive of a file, to a store in a file",
            "memory of the server, after the first"),
@@ -32,16 +42,15 @@ FIGURES = [
     Chosen("an archive of 16 MiB from a server", "over_http", "GET /nar/.*", "next to a file of those bytes", "nginx"),
     Chosen("`POST /import` of 16 MiB, next to one SHA-256 of it", "over_http", "POST /import .* in a file",
            "next to one SHA-256 of it by the same crate"),
-    Chosen("narinfos to 8 clients, kept connections of nginx", "over_http", MANY.format(8), "requests",
-           "nginx, a file"),
-    Chosen("narinfos to 64 clients, kept connections of nginx", "over_http", MANY.format(64), "requests",
-           "nginx, a file"),
-    Chosen("the slowest of a hundred of these", "over_http", MANY.format(64), "99th percentile", "nginx, a file"),
-    Chosen("narinfos a second to 64 clients through nginx, a connection for each", "readers", ".* over 1 copy .*",
-           "records, no cache: each second"),
-    Chosen("the slowest of a hundred of these", "readers", ".* over 1 copy .*", "records, no cache: 99th percentile"),
-    Chosen("narinfos a second from nginx's cache", "readers", ".* over 1 copy .*",
-           "records, all in nginx's cache: each second"),
+    Chosen("narinfos to 64 clients through nginx", "over_http", MANY, "requests", "nginx, a file"),
+    Chosen("one in a hundred, next to half of these", "over_http", MANY, "99th percentile", "the 50th"),
+    Chosen("narinfos to 64 clients by `nixkeep-cache` alone", "readers", ALONE, "records: requests"),
+    Chosen("one in a hundred, next to half of these", "readers", ALONE, "records: 99th percentile", "the 50th"),
+    Chosen("narinfos to 64 clients by nginx and `nixkeep-cache`", "readers", BEHIND, "records, no cache: requests"),
+    Chosen("one in a hundred, next to half of these", "readers", BEHIND, "records, no cache: 99th percentile",
+           "the 50th"),
+    Chosen("narinfos from nginx's cache", "readers", BEHIND, "records, all in nginx's cache: requests",
+           "nginx, files"),
     Chosen("time without answers at a restart with 10,000 objects", "restarts", "a server of .*",
            "time without answers, with RestartSec=1s"),
     Chosen("a closure of over 2 GiB to `nixkeep-cache --blobs FOLDER`", "large", FOLDER,
@@ -50,16 +59,25 @@ FIGURES = [
     Chosen("the same from there", "large", FOLDER, "a substituter"),
     Chosen("memory of `nixkeep-cache` for the first of these", "large", FOLDER,
            "memory of nixkeep-cache for the uncompressed upload"),
-    Chosen("memory for the last", "large", FOLDER, "memory of nixkeep-cache for the download"),
-    Chosen("records of these, without nginx's cache", "large", FOLDER, "records"),
     Chosen("the closure to a bucket of Swift", "large", BUCKET, "`nix copy` up, uncompressed"),
     Chosen("the closure from there", "large", BUCKET, "a substituter"),
 ]
 # The rows and the columns of the table of growth: actions of bench/nix.py, and who does them over how many objects.
 ACTIONS = ["add a text", "query", "list", "why", "live", "delete", "gc", "open after a crash"]
 SIZES = [100, 1_000, 10_000, 100_000]
+# The rows of the table of a team's day: which requests, whose half and 99 of 100 are shown, and then other figures.
+DAY = "a day of 12 users over 100,000 objects.*"
+KINDS = {"record": "a record", "archive": "an archive", "import": "an import", "add": "a text that is added",
+         "root": "a root or a profile", "question": "`why`"}
+OF_DAY = {"requests of users": "requests of users",
+          "whole store: slowest": "`list`, `roots`, `live`, `report`: the slowest",
+          "collection: slowest": "the slowest of six collections",
+          "a backup through the server, with four users who read": "a backup",
+          "their longest pause meanwhile": "the longest wait of users who read meanwhile",
+          "longest pause of users who read meanwhile": "their longest wait at a restart",
+          "memory of the server and the cache": "memory of the server and `nixkeep-cache`"}
 WAYS = {"command": "by a command", "server": "by curl over a server",
-        "nixkeep-remote": "by nixkeep-remote over a server"}
+        "remote": "by nixkeep-remote over a server"}
 
 
 def figure_in(measured: dict, bench: str, section: str, what: str, peer: str | None = None) -> dict | None:

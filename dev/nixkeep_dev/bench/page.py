@@ -2,6 +2,7 @@
 import collections
 import itertools
 import math
+import re
 from collections.abc import Iterator
 
 from nixkeep_dev.bench import chosen, remarks
@@ -21,7 +22,8 @@ GROWTH = """
 ## Growth
 
 The time of an action from the start of a process to its end. A command opens the file and tests all of it first, so it
-takes as long as `list`, whatever it does. A server did that when it started; curl is its client here.
+takes as long as `list`, whatever it does. A server did that when it started; curl is its client here, or
+`nixkeep-remote`, which the columns call remote.
 
 ![The times of a query and of why over the size of the store](performance.svg)
 """
@@ -30,10 +32,19 @@ The time of an action grows by the power in the last column, from 10,000 to 100,
 server: 1 is in proportion, 2 is quadratic. No power of any benchmark may be above 1.2, also over references and roots
 (`bin/bench --print growth`).
 """
+DAY = """## A team's day
+
+`bench/day` runs an hour of 12 users over 100,000 objects of 1.4 GiB in minutes, with a collection after each sixth, a
+backup and a restart. Each reply is compared with the model's.
+"""
 
 
 def cell(value, unit):
     return "" if value is None else shown(value, unit)
+
+
+def value_of(it):
+    return shown(it["value"], it["unit"])
 
 
 def peer_of(it):
@@ -118,8 +129,7 @@ def power(measured, way, what):
 
 def growth(measured):
     """The table of growth."""
-    columns = [("command", 1_000), ("command", 10_000), ("command", 100_000), ("server", 10_000), ("server", 100_000),
-               ("Nix", 10_000), ("Nix", 100_000)]
+    columns = [(way, size) for way in ("command", "server", "remote", "Nix") for size in chosen.SIZES[-2:]]
     yield "| Action | " + " | ".join(f"{way}, {size:,}" for way, size in columns) + " | power |"
     yield "|---" * (len(columns) + 2) + "|"
     for what in chosen.ACTIONS:
@@ -128,12 +138,29 @@ def growth(measured):
         yield f"| {what} | {' | '.join(times)} | {powers} |"
 
 
+def day(measured):
+    """The table of a team's day, where it was measured."""
+    found = {it["what"]: it for it in measured.get("day", {"figures": []})["figures"]
+             if "skipped" not in it and re.fullmatch(chosen.DAY, it["section"])}
+    if not found:
+        return
+    yield DAY
+    yield "| What | half within | 99 of 100 within |\n|---|---|---|"
+    for what, it in found.items():
+        kind, colon, _ = what.partition(": half of ")
+        if colon and kind in chosen.KINDS:
+            yield f"| {chosen.KINDS[kind]} | {value_of(it)} | {value_of(found[f'{kind}: 99 of 100 within'])} |"
+    yield "\n| What | nixkeep |\n|---|---|"
+    yield from (f"| {label} | {value_of(found[what])} |" for what, label in chosen.OF_DAY.items())
+    yield ""
+
+
 def page(measured: dict, names: list) -> str:
     """The page of the benchmarks of these names."""
     said = "\n".join(remarks.lines({name: measured[name] for name in names if name in measured}))
     counted = collections.Counter(it["is_met"] for name in names if name in measured for it in measured[name]["figures"]
                                   if it.get("is_met") is not None)
     return "\n".join([INTRODUCTION, *facts(measured), "\n## What users ask for\n", *figures(measured), GROWTH,
-                      *growth(measured), BOUND, "## Limits that are missed\n",
+                      *growth(measured), BOUND, *day(measured), "## Limits that are missed\n",
                       f"Of {sum(counted.values())} limits {counted[False]} are missed, for these reasons:\n",
                       said or "None is missed."]) + "\n"

@@ -7,8 +7,8 @@ from nixkeep_dev.bench import chosen
 from nixkeep_dev.bench.figures import shown
 
 PANELS = ["query", "why"]
-COLOURS = {"command": "#b3421b", "nixkeep-remote": "#1b6fb3", "server": "#2b8a3e", "Nix": "#666666"}
-NAMES = {"command": "nixkeep, a command", "nixkeep-remote": "nixkeep-remote, a server", "server": "curl, a server",
+COLOURS = {"command": "#b3421b", "remote": "#1b6fb3", "server": "#2b8a3e", "Nix": "#666666"}
+NAMES = {"command": "nixkeep, a command", "remote": "nixkeep-remote, a server", "server": "curl, a server",
          "Nix": "Nix"}
 WIDTH, HEIGHT, PANEL, LEFT, TOP = 800, 330, 300, 60, 40
 LEAST, GREATEST = 0.001, 10

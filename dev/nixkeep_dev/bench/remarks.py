@@ -14,6 +14,9 @@ REMARKS = [
     Remark(r"stores: `list` on 100 objects .*: memory", "`list` of 100 objects of 1 MiB, its memory",
            """The opening of `sqlite` copies all rows of a table into one list. The rest are the pages of the file:
            nixkeep keeps all pages of a file of up to 255 MiB, since an opening reads them more than once."""),
+    Remark(r"growth: .*|nix: the exponent of .*", "growths",
+           """A file of more than 255 MiB is read with a place for 2,000 of its pages alone. So the opening of `sqlite`
+           reads pages again for the entries of its indexes."""),
     Remark(r"stores: `list` on .*: (time|100,000 .*)|nix: .* by a command: .*", "actions by a command",
            """A command opens the file, and tests all of it before it answers. Nix opens its database and trusts it.
            Of 100 instructions, the opening of `sqlite` takes 56 and SHA-256 24. A server does this once."""),
@@ -30,18 +33,14 @@ REMARKS = [
     Remark(r"counts: memory of .*", "memory for objects with a deriver or an address",
            """Such an object has 104 bytes more. A server also keeps links turned round: a number for each path, and
            lists of numbers by reference, output and deriver."""),
-    Remark(r"nix: the exponent of .*", "growths of everyday actions", "As in bench/growth."),
     Remark(r"nix: .*by nixkeep-remote over a server: .*", "actions by `nixkeep-remote`",
            """Most of the time is the start of python3 and the loading of modules. The server takes less than a
            millisecond for most requests."""),
     Remark(r"nix: .*by curl over a server: .*", "actions by curl",
-           """A deletion looks for what keeps the path, and marks all that is live for that."""),
+           """Most of the time is the start of curl. The server takes less than a millisecond for most requests."""),
     Remark(r"nix: `cat-nar` of 16 MiB: time", "`cat-nar`, next to a copy of the file by `cat`",
            """A command reads and tests the file, and hashes the archive before it prints it. `cat` copies a file that
            the kernel has in memory."""),
-    Remark(r"growth: .*", "growths",
-           """A file of more than 255 MiB is read with a place for 2,000 of its pages alone. So the opening of `sqlite`
-           reads pages again for the entries of its indexes."""),
     Remark(r"libraries: .*in pieces of 100: what comes", "an archive in pieces of 100 bytes",
            """There is a call for each 100 bytes."""),
     Remark(r"commands: .*", "commands without a store",

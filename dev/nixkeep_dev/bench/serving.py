@@ -26,8 +26,8 @@ class Client:
         found.setsockopt(socket.IPPROTO_TCP, socket.TCP_NODELAY, 1)
         return cls(found)
 
-    def reply(self) -> int:
-        """The length of the text of the next reply, which has to be 200."""
+    def reply(self, status: int = 200) -> int:
+        """The length of the text of the next reply, which has to have this status."""
         at, end = 0, -1
         while end < 0:
             count = self.socket.recv_into(self.room[at:])
@@ -36,16 +36,16 @@ class Client:
             at += count
             end = bytes(self.room[: min(at, 4096)]).find(b"\r\n\r\n")
         head = bytes(self.room[:end]).lower()
-        if not head.startswith(b"http/1.1 200"):
+        if not head.startswith(b"http/1.1 %d " % status):
             sys.exit(f"a reply: {bytes(self.room[:at])[:300]!r}")
         length = int(head.partition(b"content-length:")[2].split()[0])
         while at < end + 4 + length:
             at += self.socket.recv_into(self.room[at:])
         return length
 
-    def ask(self, method: str, target: str, body: bytes | None = None) -> int:
+    def ask(self, method: str, target: str, body: bytes | None = None, status: int = 200) -> int:
         self.socket.sendall(message("root", method, target, body))
-        return self.reply()
+        return self.reply(status)
 
     def get(self, target: str) -> int:
         return self.ask("GET", target)

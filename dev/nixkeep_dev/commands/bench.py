@@ -32,8 +32,8 @@ from nixkeep_dev.build.program import HERE
 from nixkeep_dev.testing import libraries, packages, report
 from nixkeep_dev.testing.runs import command, options_of
 
-FIRST = ["commands", "stores", "counts", "growth", "requests", "over_http", "nix", "libraries", "readers",
-         "restarts", "day"]
+FIRST = ["commands", "stores", "counts", "growth", "requests", "questions", "over_http", "nix", "libraries",
+         "readers", "restarts", "day"]
 # These need a quiet machine for long. The first command is measured with all processors and with two.
 LONG = {"large": [[]], "first_run": [[], ["--processors", "2"]], "proofs": [[]]}
 NAMES, STORED = [*FIRST, *LONG], [*FIRST, "large"]
