@@ -102,6 +102,8 @@ def small(run, words, folder):
 def show_clients(count, ours, theirs):
     """Prints what clients get through nginx, next to those of servers of files. One in a hundred may wait for five
     times as long as half of them do."""
+    if not all(it.rate for it in ours):
+        return note("no reply came in some round")
     for peer, of_peer in theirs.items():
         rates = [[it.rate for it in runs] for runs in (of_peer, ours)]
         versus("requests", *rates, None, f"{peer}, a file", max, "a second")

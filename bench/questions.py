@@ -14,7 +14,7 @@ from nixkeep_dev.testing.http_messages import lines
 
 # The most seconds of a question about a path with ten referrers, and of its deletion.
 MOST = 0.002
-# Each eleventh object has ten referrers. Of every other one the first of them has a root, in so many groups.
+# Each eleventh object has ten referrers, with which it is a group. There are as many groups with a root as KEPT says.
 GROUP, KEPT = 11, 500
 DENIED = 403
 

@@ -27,7 +27,7 @@ from concurrent.futures import ThreadPoolExecutor
 from pathlib import Path
 
 import parts
-from nixkeep_dev.bench.figures import limit, main, put, skipped, title, versus
+from nixkeep_dev.bench.figures import limit, main, note, put, skipped, title, versus
 from nixkeep_dev.bench.load import Load
 from nixkeep_dev.bench.nginx import nginx
 from nixkeep_dev.bench.serving import Serving, processor_of
@@ -81,6 +81,8 @@ def asked(folder, port, targets, seconds):
 def show(what, load, seconds, least=None, is_fair=True, peer=None):
     """The figures of a run, its rate next to that of a peer. Each reply has to be 200, also while the servers are
     away."""
+    if not load.rate:
+        return note(f"{what}: no reply came")
     more = {"spread": None}
     if peer:
         more |= {"peer": peer[0], "theirs": peer[1].rate, "ratio": load.rate / peer[1].rate}

@@ -6,46 +6,24 @@ import re
 Chosen = collections.namedtuple("Chosen", "label bench section what peer", defaults=[None])
 KIB = "`list` on {} objects of 1,024 bytes with 3 references each"
 HUNDRED = "`list` on 100 objects of 1,048,576 bytes.*"
-FOLDER, BUCKET = ".* nixkeep-cache, in a folder", ".* nixkeep-cache, in a bucket of Swift"
-MANY = r"GET /info/{path} over 10,000 objects through nginx, 64 clients"
+FOLDER = ".* nixkeep-cache, in a folder"
 ALONE, BEHIND = "64 clients of nixkeep-cache alone .*", "64 clients through nginx over 1 copy .*"
 REFERRED = "a path with ten referrers, of 100,000 objects"
 FIGURES = [
-    Chosen("a command without a store (`who`)", "commands", "who, from the start.*", "time"),
-    Chosen("`text-path` of 16 MiB", "commands", "text-path, over 16 MiB.*", "time"),
     Chosen("`list` of 10,000 objects of 1 KiB: reading and testing the file", "stores", KIB.format("10,000"), "time"),
-    Chosen("the same of 100,000 objects", "stores", KIB.format("100,000"), "time"),
-    Chosen("its memory", "stores", KIB.format("100,000"), "memory"),
     Chosen("`list` of 100 objects of 1 MiB", "stores", HUNDRED, "time"),
     Chosen("its memory", "stores", HUNDRED, "memory"),
-    Chosen("`gc` of 3,048 of 5,000 objects", "stores", "`gc` of .*", "time"),
-    Chosen("`add-source` of 16 MiB into a new file", "stores", "an archive of 16 MiB.*",
-           "`add-source` into a new file"),
     Chosen("memory of an open store, for each object with 3 references", "counts", "memory of the index.*",
            "for each object with 3 references"),
     Chosen("1,000 small adds to a server, each with its sync", "requests", "1,000 adds of .*", "time"),
-    Chosen("`GET /live` of 5,000 objects", "requests", "5,000 objects .*", "GET /live"),
     Chosen("`why` of a path with ten referrers, of 100,000 objects", "questions", REFERRED, "GET /roots-of/{path}"),
     Chosen("`delete` of such a path and of these", "questions", REFERRED, "POST /delete, of it and of these"),
-    Chosen("`why` of one to which all refer", "questions", "a path to which all of 100,000 .*", "GET /roots-of/{path}"),
-    Chosen("`nixkeep-remote` over http, the slowest subcommand", "nix", "100 objects, the subcommands by .*",
-           "the slowest of them"),
-    Chosen("python3 that does nothing", "nix", "what clients take that ask for nothing", "python3"),
-    Chosen("`nixkeep-remote` over https, a query", "nix", "a query by nixkeep-remote over https",
-           "next to curl with the same certificate"),
     Chosen("an add of 16 MiB to a server", "requests", ".*archive of a file, to a store in a file", "time"),
-    Chosen("memory of a server after that", "requests", ".*archive of a file, to a store in a file",
-           "memory of the server, after the first"),
     Chosen("100 archives of 1 MiB from a server", "requests", "100 archives of 1 MiB.*", "time"),
-    Chosen("a narinfo from a server of 10,000 objects", "over_http", ".*, one client", "next to a file of those bytes",
-           "nginx"),
     Chosen("an archive of 16 MiB from a server", "over_http", "GET /nar/.*", "next to a file of those bytes", "nginx"),
     Chosen("`POST /import` of 16 MiB, next to one SHA-256 of it", "over_http", "POST /import .* in a file",
            "next to one SHA-256 of it by the same crate"),
-    Chosen("narinfos to 64 clients through nginx", "over_http", MANY, "requests", "nginx, a file"),
-    Chosen("one in a hundred, next to half of these", "over_http", MANY, "99th percentile", "the 50th"),
     Chosen("narinfos to 64 clients by `nixkeep-cache` alone", "readers", ALONE, "records: requests"),
-    Chosen("one in a hundred, next to half of these", "readers", ALONE, "records: 99th percentile", "the 50th"),
     Chosen("narinfos to 64 clients by nginx and `nixkeep-cache`", "readers", BEHIND, "records, no cache: requests"),
     Chosen("one in a hundred, next to half of these", "readers", BEHIND, "records, no cache: 99th percentile",
            "the 50th"),
@@ -55,26 +33,16 @@ FIGURES = [
            "time without answers, with RestartSec=1s"),
     Chosen("a closure of over 2 GiB to `nixkeep-cache --blobs FOLDER`", "large", FOLDER,
            "`nix copy` up, uncompressed"),
-    Chosen("the same, compressed by Nix", "large", FOLDER, "`nix copy` up, by zstd"),
-    Chosen("the same from there", "large", FOLDER, "a substituter"),
-    Chosen("memory of `nixkeep-cache` for the first of these", "large", FOLDER,
-           "memory of nixkeep-cache for the uncompressed upload"),
-    Chosen("the closure to a bucket of Swift", "large", BUCKET, "`nix copy` up, uncompressed"),
-    Chosen("the closure from there", "large", BUCKET, "a substituter"),
 ]
 # The rows and the columns of the table of growth: actions of bench/nix.py, and who does them over how many objects.
-ACTIONS = ["add a text", "query", "list", "why", "live", "delete", "gc", "open after a crash"]
+ACTIONS = ["add a text", "query", "list", "why", "live", "delete", "gc"]
 SIZES = [100, 1_000, 10_000, 100_000]
 # The rows of the table of a team's day: which requests, whose half and 99 of 100 are shown, and then other figures.
 DAY = "a day of 12 users over 100,000 objects.*"
 KINDS = {"record": "a record", "archive": "an archive", "import": "an import", "add": "a text that is added",
          "root": "a root or a profile", "question": "`why`"}
-OF_DAY = {"requests of users": "requests of users",
-          "whole store: slowest": "`list`, `roots`, `live`, `report`: the slowest",
-          "collection: slowest": "the slowest of six collections",
-          "a backup through the server, with four users who read": "a backup",
-          "their longest pause meanwhile": "the longest wait of users who read meanwhile",
-          "longest pause of users who read meanwhile": "their longest wait at a restart",
+OF_DAY = {"requests of users": "requests of users", "collection: slowest": "the slowest collection",
+          "longest pause of users who read meanwhile": "the longest wait of users at the restart",
           "memory of the server and the cache": "memory of the server and `nixkeep-cache`"}
 WAYS = {"command": "by a command", "server": "by curl over a server",
         "remote": "by nixkeep-remote over a server"}

@@ -60,7 +60,8 @@ def put(what: str, value: float, unit: str, limit: float | None, more: dict, is_
     ratio = more.get("ratio")
     measured = value if ratio is None else ratio
     is_met = None if limit is None else measured >= limit if is_least else measured <= limit
-    wanted = limit and f"{'at least' if is_least else 'at most'} {limit:g} {unit if ratio is None else 'times'}"
+    of = unit if ratio is None else "times"
+    wanted = None if limit is None else f"at {'least' if is_least else 'most'} {limit:g} {of}"
     kept = {"section": section, "what": what, "value": value, "unit": unit, "limit": wanted, "is_met": is_met, **more}
     records.append(kept)
     note(line_of(kept))

@@ -18,8 +18,8 @@ REMARKS = [
            """A file of more than 255 MiB is read with a place for 2,000 of its pages alone. So the opening of `sqlite`
            reads pages again for the entries of its indexes."""),
     Remark(r"stores: `list` on .*: (time|100,000 .*)|nix: .* by a command: .*", "actions by a command",
-           """A command opens the file, and tests all of it before it answers. Nix opens its database and trusts it.
-           Of 100 instructions, the opening of `sqlite` takes 56 and SHA-256 24. A server does this once."""),
+           """A command tests all of the file before it answers. Nix trusts its database. Of 100 instructions, the
+           opening of `sqlite` takes 56 and SHA-256 24. A server does this once."""),
     Remark(r"(requests|over_http): .* 16 MiB.*: (time|next to one SHA-256 of it by the same crate)",
            "adds of 16 MiB to a file",
            """Each byte is copied 16 times on its way into the file: 15 times by `sqlite`, and once by nixkeep. No call
@@ -34,10 +34,22 @@ REMARKS = [
            """Such an object has 104 bytes more. A server also keeps links turned round: a number for each path, and
            lists of numbers by reference, output and deriver."""),
     Remark(r"nix: .*by nixkeep-remote over a server: .*", "actions by `nixkeep-remote`",
-           """Most of the time is the start of python3 and the loading of modules. The server takes less than a
-           millisecond for most requests."""),
+           """Most of the time is the start of python3, and the rest its loading of modules. The server takes less than
+           a millisecond for most requests. To start curl for them would come in addition."""),
+    Remark(r"nix: .* over https: .*", "a query by `nixkeep-remote` over https",
+           """python3 loads `ssl` for it, which takes longer than curl takes for all of the query."""),
+    Remark(r"readers: .* alone .*: records: requests", "requests to `nixkeep-cache` alone",
+           """It runs on one processor, on Debian's aiohttp, whose own part `bin/bench --print readers` has. Each record is
+           a request to the server as well."""),
+    Remark(r"readers: .*: .*, all in nginx's cache: requests", "records and archives from nginx's cache",
+           """nginx asks its cache as well whether the reader may connect, and a file has no such question."""),
+    Remark(r"(readers|over_http): .*: 99th percentile", "one request in a hundred, next to half of them",
+           """The server serves one connection after another, in the order in which they come."""),
+    Remark(r"questions: .*POST /delete, of it and of these", "a deletion of a path with ten referrers",
+           """It deletes eleven objects, and syncs the log."""),
     Remark(r"nix: .*by curl over a server: .*", "actions by curl",
-           """Most of the time is the start of curl. The server takes less than a millisecond for most requests."""),
+           """Most of the time is the start of curl. The server takes less than a millisecond for most
+           requests."""),
     Remark(r"nix: `cat-nar` of 16 MiB: time", "`cat-nar`, next to a copy of the file by `cat`",
            """A command reads and tests the file, and hashes the archive before it prints it. `cat` copies a file that
            the kernel has in memory."""),
