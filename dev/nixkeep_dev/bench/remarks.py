@@ -31,16 +31,16 @@ REMARKS = [
            """The server also sends each archive to a client, and C SQLite only reads the rows. A server that reads
            them by C SQLite takes 0.8 of nixkeep's time."""),
     Remark(r"counts: memory of .*", "memory for objects with a deriver or an address",
-           """Such an object has 104 bytes more. A server also keeps links turned round: a number for each path, and
-           lists of numbers by reference, output and deriver."""),
+           """Such an object has 104 bytes more. The links that a server keeps turned round take 46 bytes for an object,
+           63 for a list of what refers to it, and 63 for one of what it has made. Without them all limits are met."""),
     Remark(r"nix: .*by nixkeep-remote over a server: .*", "actions by `nixkeep-remote`",
            """Most of the time is the start of python3, and the rest its loading of modules. The server takes less than
            a millisecond for most requests. To start curl for them would come in addition."""),
     Remark(r"nix: .* over https: .*", "a query by `nixkeep-remote` over https",
            """python3 loads `ssl` for it, which takes longer than curl takes for all of the query."""),
     Remark(r"readers: .* alone .*: records: requests", "requests to `nixkeep-cache` alone",
-           """It runs on one processor, on Debian's aiohttp, whose own part `bin/bench --print readers` has. Each record is
-           a request to the server as well."""),
+           """It runs on one processor, on Debian's aiohttp, whose own part `bin/bench --print readers` has. Each record
+           is a request to the server as well."""),
     Remark(r"readers: .*: .*, all in nginx's cache: requests", "records and archives from nginx's cache",
            """nginx asks its cache as well whether the reader may connect, and a file has no such question."""),
     Remark(r"(readers|over_http): .*: 99th percentile", "one request in a hundred, next to half of them",
