@@ -9,7 +9,12 @@ use Rattle.model.specs.Request as asked
 use Rattle.model.specs.Reply.{Reply, denied, failed, memory}
 use Rattle.model.specs.Verdict.{operation_of}
 use Rattle.store_types.specs.declared.requests.Request.{Request}
-use Rattle.store_types.specs.declared.requests.Request.TheVariants.{AddSource, Import}
+use Rattle.store_types.specs.declared.requests.Request.TheVariants.{AddText, Info, Nar, Ls, List as ListAll, Live, Dead}
+use Rattle.store_types.specs.declared.requests.Request.TheVariants.{ListRoots, RootsOf, Report, SetPermanent}
+use Rattle.store_types.specs.declared.requests.Request.TheVariants.{DropPermanent, SetUserRoot, DropUserRoot, Rollback}
+use Rattle.store_types.specs.declared.requests.Request.TheVariants.{Switch, DeleteGeneration, SetProfile, AddTemp}
+use Rattle.store_types.specs.declared.requests.Request.TheVariants.{EndSession, ReplaceRuntime, AddSource, Import}
+use Rattle.store_types.specs.declared.requests.Request.TheVariants.{Collect, Delete}
 use Rattle.store_types.specs.View.{request_view}
 
 -- Whether the archive that a request adds was dropped: its intake was refused memory, and has no bytes any more. If a
@@ -17,7 +22,29 @@ use Rattle.store_types.specs.View.{request_view}
 abbrev pub is_spent : Request → Bool
 is_spent (AddSource name refs nar) = is_none nar
 is_spent (Import p hash refs deriver ca nar) = is_none nar
-is_spent _ = false
+is_spent (AddText name refs contents) = false
+is_spent (Info p) = false
+is_spent (Nar p) = false
+is_spent (Ls p) = false
+is_spent ListAll = false
+is_spent Live = false
+is_spent Dead = false
+is_spent ListRoots = false
+is_spent (RootsOf p) = false
+is_spent Report = false
+is_spent (SetPermanent name p) = false
+is_spent (DropPermanent name) = false
+is_spent (SetUserRoot owner name p) = false
+is_spent (DropUserRoot owner name) = false
+is_spent (Rollback owner name) = false
+is_spent (Switch owner name n) = false
+is_spent (DeleteGeneration owner name n) = false
+is_spent (SetProfile owner name p) = false
+is_spent (AddTemp owner session p) = false
+is_spent (EndSession owner session) = false
+is_spent (ReplaceRuntime pairs) = false
+is_spent (Collect ignores limit) = false
+is_spent (Delete named ignores) = false
 
 -- the reply to such a request: the denial of the first rule that forbids it, or out of memory, ahead of all tests
 abbrev pub spent_reply : Settings → Caller → asked.Request → Reply

@@ -1,6 +1,6 @@
 //! Runs a command line over any reader and two writers.
 ghost use Rattle.std.specs.Io.KnownBytes.{Keeps};
-ghost use Rattle.std.specs.Prelude.{◌≡◌, ◌≢◌, ℕ, IfOk, List, OnErr, Ok, Err, map, string_bytes, true, false};
+ghost use Rattle.std.specs.Prelude.{◌≡◌, ◌≢◌, IfOk, OnErr, Ok, Err, codes, map, string_bytes, true, false};
 ghost use Rattle.std.specs.IoError.{error_kind};
 ghost use Rattle.tool.specs.Answer.{AnswersOpened, Explains, ExplainsUsage, RunsLine};
 ghost use Rattle.tool.specs.Files.{DoesFile};
@@ -205,8 +205,8 @@ pub fn refuse_words<E: Write>(fault: &io::Error, errors: &mut E) -> u8
     ensures memory { error_kind fault.now ≡ ErrorKind.OutOfMemory
         → Says (Stop.Failed Failure.Memory) (printed_of E.contents errors.old errors.new result) }
     ensures other { error_kind fault.now ≢ ErrorKind.OutOfMemory
-        → (text : List ℕ)
-        × Prints text 2 (printed_of E.contents errors.old errors.new result) }
+        → Prints (codes "error: a word of the command line isn't UTF-8\n") 2
+        (printed_of E.contents errors.old errors.new result) }
 {
     if fault.kind() == ErrorKind::OutOfMemory {
         return say(Stop::Failed(Failure::Memory), errors);

@@ -53,7 +53,7 @@ pub record MakesImport (dir body : List ℕ) (result : Result Request BodyError)
 
 -- ---- inside the crate
 
--- the request of a target, where the body has to be blank; nothing is said of a kind that its target doesn't say whole
+-- the request of a target, where the body has to be blank; of a kind that its target doesn't say whole, `Memory` alone
 abbrev pub ReadsTarget : Kind → List ℕ → Bool → Result Request AskError → Type 0
 ReadsTarget kind target blank (Ok q) = (blank ≡ true) × (by_target kind target ≡ Some (request_view q))
 ReadsTarget kind target blank (Err BadPath) = ⊥

@@ -14,6 +14,11 @@ has_begun_after a b has =
     list_any-append (λ x. not (x == 13 || x == 10)) a b ∙ ap (λ y. list_any (λ x. not (x == 13 || x == 10)) a || y) has
     ∙ or-true _
 
+-- it comes before any other bytes
+pub has_begun_before : (a b : List ℕ) → has_begun_in a ≡ true → has_begun_in (a ++ b) ≡ true
+has_begun_before a b has =
+    list_any-append (λ x. not (x == 13 || x == 10)) a b ∙ ap (λ y. y || list_any (λ x. not (x == 13 || x == 10)) b) has
+
 pub none_in_line_ends : (buf : List ℕ) → has_begun_in buf ≡ false → HasNoRequest buf
 none_in_line_ends buf lacks h rest reads =
     let has : has_begun_in buf ≡ true =

@@ -12,13 +12,14 @@ use Rattle.wire_server.specs.Messages.{IsFault, HoldsMessage, ReadsTo}
 use Rattle.wire_server.specs.Division.{message, faulty, closes}
 use Rattle.wire_server.specs.Responses.{Replied, reply_bytes}
 use Rattle.wire_server.specs.Answers.{body_in}
-use Rattle.wire_server.specs.Serves.{fault_reply, joined, reported, IsWritten, TakesAll, Serves, Stops}
+use Rattle.wire_server.specs.Serves.{fault_reply, joined, reported, IsWritten, TakesAll, AwaitsAll, Serves, Stops}
 use Rattle.wire_server.specs.declared.error.WireError.{WireError}
 use Rattle.wire_server.specs.declared.error.WireError.TheVariants.{Read, Write, Memory}
 use Rattle.wire_server.proofs.Reported.{Reported, divides_all, begins_all, follows_start, follows_read, follows_end}
 use Rattle.wire_server.proofs.Reported.{follows_any, follows_fault, follows_last, follows_more, follows_item}
 use Rattle.wire_server.proofs.Reported.{reaches_start, reaches_read, reaches_here, reaches_fault, reaches_more}
-use Rattle.wire_server.proofs.Reported.{joined_more, counted_more, replies_item, replies_fault}
+use Rattle.wire_server.proofs.Waiting.{waits_start, waits_read, waits_more}
+use Rattle.wire_server.proofs.Reported.{joined_more, counted_more, replies_item, replies_fault, stays_more}
 
 full : (n k : ℕ) → n ≡ 340282366920938463463374607431768211455 → n ≡ k → k < 2 ^ 128 - 1 → ⊥
 full n k is same small = omega arith
@@ -39,6 +40,8 @@ module _ {S : Type 0} (answers : S → RequestHead → List ℕ → Replied → 
         counted = refl;
         follows = follows_start input;
         reaches = reaches_start input;
+        waits = waits_start input;
+        stays = tt;
         answered = refl;
         written = Appends-nil output;
       }
@@ -52,33 +55,37 @@ module _ {S : Type 0} (answers : S → RequestHead → List ℕ → Replied → 
     counted = report.counted;
     follows = follows_read input mid rest held (held ++ bs) bs report.done report.follows read refl;
     reaches = reaches_read input mid rest held bs report.done report.reaches read;
+    waits = waits_read input mid rest held bs report.done report.waits read;
+    stays = report.stays;
     answered = report.answered;
     written = report.written;
   }
 
   -- broken off before another reply
   pub stopped : (rest left out : Option (List ℕ)) (held : List ℕ) (t : S) (n : ℕ)
-      → Reported answers input rest output out held s t n
-      → (e : WireError) → (e ≡ Write → ⊥) → Stops answers input left output out s t e
-  stopped rest left out held t n report e reading = record {
+      (report : Reported answers input rest output out held s t n) (e : WireError) → (e ≡ Write → ⊥)
+      → (e ≡ Read → AwaitsAll input left report.done)
+      → Stops answers input left output out s t e
+  stopped rest left out held t n report e reading waiting = record {
     items = report.done;
     replies = report.replies;
     bytes = joined report.replies;
     prefix = begins_all input report.done (follows_any input rest held report.done report.follows);
     read = λ is. absurd (reading is);
+    awaited = waiting;
     answered = report.answered;
     written = by e reading;
     appended = report.written;
   }
     where
-      by : (v : WireError) → (v ≡ Write → ⊥) → IsWritten v report.replies (joined report.replies)
-      by Read reads = refl
+      by : (v : WireError) → (v ≡ Write → ⊥) → IsWritten v report.done report.replies (joined report.replies)
+      by Read reads = (report.stays, refl)
       by Write reads = absurd (reads refl)
-      by Memory reads = inl refl
+      by Memory reads = inl (report.stays, refl)
 
   -- nothing was read, answered or written
   pub unserved : Stops answers input input output output s s Memory
-  unserved = stopped input input output [] s 0 reported_start Memory (λ is. cc)
+  unserved = stopped input input output [] s 0 reported_start Memory (λ is. cc) (λ is. cc)
 
   -- a connection to whose writer nothing was given
   pub still : (rest out out' : Option (List ℕ)) (held : List ℕ) (t : S) (n : ℕ)
@@ -90,6 +97,8 @@ module _ {S : Type 0} (answers : S → RequestHead → List ℕ → Replied → 
     counted = report.counted;
     follows = report.follows;
     reaches = report.reaches;
+    waits = report.waits;
+    stays = report.stays;
     answered = report.answered;
     written = Appends-kept output out out' (joined report.replies) report.written kept;
   }
@@ -151,6 +160,7 @@ module _ {S : Type 0} (answers : S → RequestHead → List ℕ → Replied → 
       bytes = joined report.replies ++ take k (fault_reply fault);
       prefix = begins_all input _ (follows_fault false input rest held report.done fault report.follows some is);
       read = λ _. reaches_fault input rest held report.done fault before report.reaches small near;
+      awaited = λ failed. cc;
       answered = replies_fault answers s t report.done report.replies fault report.answered;
       written = (report.replies, fault_reply fault, k, refl, below, refl);
       appended = Appends-trans output out out' (joined report.replies) (take k (fault_reply fault)) report.written sent;
@@ -166,16 +176,19 @@ module _ {S : Type 0} (answers : S → RequestHead → List ℕ → Replied → 
         reaches_here input rest _ _ (reaches_more held report.done head size h is input rest report.reaches) few
 
     answered_broken : (out' : Option (List ℕ)) (new : S) (r : Replied) (e : WireError) (bytes : List ℕ)
-        → (e ≡ Write → length (drop (head.spans.len + size) held) ≤ 4095)
+        → (e ≡ Write → length (drop (head.spans.len + size) held) ≤ 4095) → (e ≡ Read → ⊥)
         → answers t h (body_in held head size) r new
-        → IsWritten e (report.replies ++ reply_bytes (closes h) r ∷ []) bytes → Appends output out' bytes
+        → IsWritten e (report.done ++ message h (body_in held head size) ∷ [])
+        (report.replies ++ reply_bytes (closes h) r ∷ []) bytes
+        → Appends output out' bytes
         → Stops answers input rest output out' s new e
-    answered_broken out' new r e bytes few answered written appended = record {
+    answered_broken out' new r e bytes few writing answered written appended = record {
       items = report.done ++ message h (body_in held head size) ∷ [];
       replies = report.replies ++ reply_bytes (closes h) r ∷ [];
       bytes = bytes;
       prefix = begins_all input _ (follows_item held report.done head size h is input rest report.follows);
       read = λ failed. taken (few failed);
+      awaited = λ failed. absurd (writing failed);
       answered =
           replies_item answers s t new report.done report.replies h (body_in held head size) r report.answered answered;
       written = written;
@@ -188,7 +201,7 @@ module _ {S : Type 0} (answers : S → RequestHead → List ℕ → Replied → 
         → Stops answers input rest output out' s new Write
     answered_in_part out' new r answered (k, below, sent) few =
         answered_broken out' new r Write (joined report.replies ++ take k (reply_bytes (closes h) r)) (λ _. few)
-        answered
+        (λ is. cc) answered
         (report.replies, reply_bytes (closes h) r, k, refl, below, refl)
         (Appends-trans output out out' (joined report.replies) (take k (reply_bytes (closes h) r)) report.written sent)
 
@@ -197,7 +210,7 @@ module _ {S : Type 0} (answers : S → RequestHead → List ℕ → Replied → 
         → Keeps out out'
         → Stops answers input rest output out' s new Memory
     answered_lost out' new r answered kept =
-        answered_broken out' new r Memory (joined report.replies) (λ is. cc) answered
+        answered_broken out' new r Memory (joined report.replies) (λ is. cc) (λ is. cc) answered
         (inr (report.replies, reply_bytes (closes h) r, refl, refl))
         (Appends-kept output out out' (joined report.replies) report.written kept)
 
@@ -229,6 +242,8 @@ module _ {S : Type 0} (answers : S → RequestHead → List ℕ → Replied → 
       counted = counted_more report.done _ n report.counted;
       follows = follows_more held report.done head size h is input rest report.follows on;
       reaches = reaches_more held report.done head size h is input rest report.reaches;
+      waits = waits_more held report.done head size h is input rest report.waits;
+      stays = stays_more report.done h (body_in held head size) report.stays on;
       answered =
           replies_item answers s t new report.done report.replies h (body_in held head size) r report.answered answered;
       written = sent_more output out out' report.replies (reply_bytes (closes h) r) report.written sent;

@@ -9,9 +9,11 @@ pub mod Arrived
 pub mod Beginnings
 pub mod Came
 pub mod Heads
+pub mod Lines
 pub mod Longer
 pub mod Named
 pub mod Once
 pub mod PlainText
 pub mod Reading
+pub mod Waiting
 pub mod Whole

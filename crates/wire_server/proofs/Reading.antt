@@ -9,11 +9,11 @@ use Rattle.std.proofs.KnownBytes.{Consumes-trans}
 use Rattle.httparse.specs.Grammar.{RequestHead, HasNoRequest}
 use Rattle.wire_server.specs.declared.head.Head.{Head}
 use Rattle.wire_server.specs.declared.error.Fault.{Fault}
-use Rattle.wire_server.specs.Heads.{HasNoHead, Holds, max_head}
+use Rattle.wire_server.specs.Heads.{HasNoHead, Holds}
 use Rattle.wire_server.specs.Fields.{fields_of, fields_at, body_length, length_by, values, stated, is_number, max_body}
 use Rattle.wire_server.specs.declared.error.Fault.TheVariants.{BadHead, BadLength, TooLarge}
 use Rattle.std.specs.Str.Parse.{digits_value}
-use Rattle.wire_server.specs.Messages.{FaultOfHead, EndsInside, IsFault, HoldsTo}
+use Rattle.wire_server.specs.Messages.{FaultOfHead, EndsInside, IsFault}
 use Rattle.wire_server.proofs.Heads.{head_in_prefix}
 use Rattle.wire_server.proofs.Longer.{head-append}
 
@@ -65,11 +65,6 @@ beyond_seen buf head h seen holds none = elim (cases_lt seen head.spans.len) [
   | inr before ↦ absurd
       (none h _ (head_in_prefix buf h _ seen holds.is_head.reads (omega (arith, before, holds.places.len))))
 ]
-
--- a head has no more bytes than it may have
-pub head_near : (held : List ℕ) (head : Head) (h : RequestHead) (n : ℕ) → Holds held head h
-    → HoldsTo n head.spans.len held → HoldsTo n max_head held
-head_near held head h n holds near = omega (arith, near, holds.places.len, holds.is_head.short)
 
 -- an input that ends before the body is whole
 pub ends_inside : (held : List ℕ) (head : Head) (h : RequestHead) (size : ℕ) → Holds held head h

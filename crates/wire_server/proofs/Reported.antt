@@ -11,12 +11,14 @@ use Rattle.wire_server.specs.declared.head.Head.{Head}
 use Rattle.wire_server.specs.declared.error.Fault.{Fault}
 use Rattle.wire_server.specs.Heads.{Holds}
 use Rattle.wire_server.specs.Fields.{fields_at, values}
-use Rattle.wire_server.specs.Messages.{IsMessage, IsFault, EndsInside, HoldsMessage, ReadsTo}
+use Rattle.wire_server.specs.Messages.{IsMessage, IsFault, EndsInside, HoldsLittle, HoldsMessage, ReadsTo}
 use Rattle.wire_server.specs.Division.{Item, message, faulty, closes, Divides}
+use Rattle.wire_server.proofs.Lines.{little_more}
+use Rattle.wire_server.proofs.Waiting.{Waits}
 use Rattle.wire_server.proofs.Whole.{message_of_input}
 use Rattle.wire_server.specs.Responses.{Replied, reply_bytes}
 use Rattle.wire_server.specs.Answers.{body_in}
-use Rattle.wire_server.specs.Serves.{Begins, DividesAll, BeginsWith, Takes, TakesAll, Replies, fault_reply, joined}
+use Rattle.wire_server.specs.Serves.{Begins, DividesAll, BeginsWith, Takes, TakesAll, StayOpen, Replies, fault_reply, joined}
 
 -- ---- the input
 
@@ -130,10 +132,10 @@ reaches_here (Some all) (Some more) held done reaches few =
     subst (λ items. Takes all items more) (append-nil done) (reaches [] more (held, refl, few))
 
 few_of_fault : (n : ℕ) (held more : List ℕ) → n ≤ 4095 → ReadsTo n held (Some more)
-    → ((more ≡ []) × EndsInside (held ++ more)) ⊎ (length held ≤ 20479)
+    → ((more ≡ []) × EndsInside (held ++ more)) ⊎ HoldsLittle 4095 held
 few_of_fault n held more small (inl (end, inside)) =
     inl (end, subst EndsInside (sym (ap (λ t. held ++ t) end ∙ append-nil held)) inside)
-few_of_fault n held more small (inr near) = inr (omega (arith, near, small))
+few_of_fault n held more small (inr little) = inr (little_more n 4095 held small little)
 
 pub reaches_fault : (old new : Option (List ℕ)) (held : List ℕ) (done : List Item) (fault : Fault) (n : ℕ)
     → Reaches old new held done → n ≤ 4095 → ReadsTo n held new → TakesAll old new (done ++ faulty fault ∷ [])
@@ -203,6 +205,14 @@ pub closes_in : (buf held : List ℕ) (places head : Head) (h : RequestHead) →
     (values (codes "connection") (fields_at buf places))) ≡ closes h
 closes_in buf held places head h is same at = rw (same, at) (closes_at held head h is)
 
+-- ---- the connection
+
+pub stays_more : (done : List Item) (h : RequestHead) (body : List ℕ) → StayOpen done → closes h ≡ false
+    → StayOpen (done ++ message h body ∷ [])
+stays_more [] h body stays on = (on, tt)
+stays_more (message k p ∷ done) h body (is, stays) on = (is, stays_more done h body stays on)
+stays_more (faulty fault ∷ done) h body stays on = absurd stays
+
 -- ---- the replies
 
 pub joined_more : (replies : List (List ℕ)) (last : List ℕ) → joined (replies ++ last ∷ []) ≡ joined replies ++ last
@@ -247,5 +257,7 @@ module _ {S : Type 0} (answers : S → RequestHead → List ℕ → Replied → 
     pub counted : n ≡ length done
     pub follows : Follows input rest held done
     pub reaches : Reaches input rest held done
+    pub waits : Waits input rest held done
+    pub stays : StayOpen done
     pub answered : Replies answers old done replies new
     pub written : Appends output output' (joined replies)

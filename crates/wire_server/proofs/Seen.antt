@@ -78,6 +78,7 @@ module _ {S W : Type 0} (answers : S → RequestHead → List ℕ → Replied �
                 bytes = stopped.bytes;
                 prefix = stopped.prefix;
                 read = stopped.read;
+                awaited = stopped.awaited;
                 answered = after.1;
                 written = stopped.written;
                 appended = stopped.appended;

@@ -9,11 +9,13 @@ use Rattle.wire_server.specs.Responses.{Replied, replied, reply_bytes}
 use Rattle.wire_server.specs.declared.error.WireError.{WireError}
 use Rattle.wire_server.specs.declared.error.WireError.TheVariants.{Read, Write, Memory}
 use Rattle.wire_server.specs.declared.exchange.Exchange.{Exchange}
-use Rattle.wire_server.specs.Arrivals.{Brings, Arrives}
+use Rattle.wire_server.specs.Bodies.{IsOfReading}
+use Rattle.wire_server.specs.Arrivals.{Arrives}
 use Rattle.wire_server.specs.Sends.{SendsReply}
 use Rattle.wire_server.specs.Serves.{Serves, Stops, reported}
 use Rattle.wire_server.specs.Exchanges.{Exchanged}
 use Rattle.wire_server.proofs.Reported.{Reported}
+use Rattle.wire_server.proofs.Waiting.{waits_here}
 use Rattle.wire_server.proofs.Ends.{reported_read, stopped, still, ended, refused, refused_in_part, answered_in_part}
 use Rattle.wire_server.proofs.Ends.{answered_lost, closed, goes_on}
 
@@ -40,20 +42,21 @@ module _ {S : Type 0} (answers : S → RequestHead → List ℕ → Replied → 
       → Arrives answers decides represents t (length held) mid rest held held' (Err e)
       → Stops answers input rest output out s t e
   turn_broken decides represents e (read, consumed, brings) =
-      stopped answers input output s mid rest out held t n report e (λ is. by e brings is)
+      let read_told = reported_read answers input output s mid rest out held read t n report consumed in
+      stopped answers input output s rest rest out (held ++ read) t n read_told e (λ is. by e brings.0 is)
+      (λ is. waits_here input rest (held ++ read) read_told.done read_told.waits (brings.1 is))
     where
-      by : (v : WireError) → Brings answers decides represents t (length held) (held ++ read) held' rest (Err v)
-          → v ≡ Write → ⊥
-      by Read brings is = cc
+      by : (v : WireError) → IsOfReading v → v ≡ Write → ⊥
+      by Read reads is = cc
       by Write none is = none
-      by Memory brings is = cc
+      by Memory reads is = cc
 
   -- no response came
   pub turn_lost : (e : AllocError) → Exchanged answers mid rest held held' t t' (Err e)
       → Stops answers input rest output out s t' Memory
   turn_lost e (read, accepted, inl same) =
       subst (λ u. Stops answers input rest output out s u Memory) (sym same)
-      (stopped answers input output s mid rest out held t n report Memory (λ is. cc))
+      (stopped answers input output s mid rest out held t n report Memory (λ is. cc) (λ is. cc))
   turn_lost e (read, accepted, inr (r, a)) =
       let read_told = reported_read answers input output s mid rest out held read t n report accepted in
       answered_lost answers input output s rest out (held ++ read) t n a.head a.size a.h read_told a.holds out t' r
@@ -92,7 +95,7 @@ module _ {S : Type 0} (answers : S → RequestHead → List ℕ → Replied → 
     turn_cut (read, accepted, inr ((fault, some, is, near, (said, close)), same)) Memory sent =
         let kept = still answers input output s mid out out' held t n report sent in
         subst (λ u. Stops answers input rest output out' s u Memory) (sym same)
-        (stopped answers input output s mid rest out' held t n kept Memory (λ is. cc))
+        (stopped answers input output s mid rest out' held t n kept Memory (λ is. cc) (λ is. cc))
 
     module _ (sent : Appends out out' (reply_bytes x.close (replied x.response))) where
       -- all of it was written, and the connection is closed

@@ -5,11 +5,12 @@ use Rattle.httparse.specs.Grammar.{RequestHead}
 use Rattle.wire_server.specs.declared.head.Head.{Head}
 use Rattle.wire_server.specs.Bodies.{IsOfReading}
 use Rattle.wire_server.specs.Heads.{Holds}
-use Rattle.wire_server.specs.Messages.{IsReceived, HoldsMessage, HoldsTo}
+use Rattle.wire_server.specs.Messages.{IsReceived, AwaitsMore, HoldsMessage, HoldsTo}
 use Rattle.wire_server.specs.Responses.{Replied}
 use Rattle.wire_server.specs.Answers.{body_in, IsReady}
 use Rattle.wire_server.specs.declared.responder.Begun.{Begun}
 use Rattle.wire_server.specs.declared.error.WireError.{WireError}
+use Rattle.wire_server.specs.declared.error.WireError.TheVariants.{Read}
 use Rattle.wire_server.specs.declared.message.Received.{Received}
 
 module _ {S C B : Type 0} (answers : S → RequestHead → List ℕ → Replied → S → Type 0)
@@ -28,11 +29,11 @@ module _ {S C B : Type 0} (answers : S → RequestHead → List ℕ → Replied 
   abbrev pub Arrived : List ℕ → List ℕ → Option (List ℕ) → Received (Head × ℕ × Begun (C × B)) → Type 0
   Arrived all held = IsReceived n (λ it. Whole all held it.0 it.1 it.2) all
 
-  -- the bytes were received; or the reading failed
+  -- the bytes were received; or the reading failed, while more was awaited if a read did
   abbrev pub Brings : List ℕ → List ℕ → Option (List ℕ) → Result (Received (Head × ℕ × Begun (C × B))) WireError
       → Type 0
   Brings all held rest (Ok next) = Arrived all held rest next
-  Brings all held rest (Err e) = IsOfReading e
+  Brings all held rest (Err e) = IsOfReading e × (e ≡ Read → AwaitsMore all)
 
   abbrev pub Arrives : Option (List ℕ) → Option (List ℕ) → List ℕ → List ℕ
       → Result (Received (Head × ℕ × Begun (C × B))) WireError → Type 0

@@ -1,7 +1,7 @@
 -- The head of a message at the beginning of an input.
-use Rattle.std.specs.Prelude.{ℕ, Bool, not, ◌||◌, ◌≤◌, ◌==◌, List, length, take, drop, ◌≡◌}
+use Rattle.std.specs.Prelude.{ℕ, Bool, not, ◌||◌, ◌≤◌, ◌==◌, List, [], ◌∷◌, ◌++◌, length, take, drop, ◌≡◌, true}
 use Rattle.std.specs.List.{list_any}
-use Rattle.httparse.specs.Grammar.{RequestHead, print_request, ReadsRequest, HasNoRequest}
+use Rattle.httparse.specs.Grammar.{RequestHead, print_request, ReadsRequest, HasNoRequest, NeverHasRequest}
 use Rattle.httparse.specs.Spans.{IsRequestAt, IsRequestWithin}
 use Rattle.wire_server.specs.declared.head.Head.{Head}
 
@@ -25,6 +25,14 @@ HasNoHead input = (h : RequestHead) (rest : List ℕ) → ¬ (IsHead input h res
 -- a byte other than those of line ends (13 and 10) is among the bytes
 abbrev pub has_begun_in : List ℕ → Bool
 has_begun_in bytes = list_any (λ b. not (b == 13 || b == 10)) bytes
+
+-- the input begins with a line, and a line feed, that begin no head, whatever follows them; `after` follows them here
+abbrev pub ShowsNoHead : List ℕ → List ℕ → List ℕ → Type 0
+ShowsNoHead input line after = (input ≡ line ++ 10 ∷ after) × NeverHasRequest (line ++ 10 ∷ [])
+
+-- no line does, but one of line ends alone
+abbrev pub ShowsNothing : List ℕ → Type 0
+ShowsNothing bytes = (line after : List ℕ) → ShowsNoHead bytes line after → ¬ (has_begun_in line ≡ true)
 
 -- the bytes of a buffer that were looked at have no head, and whether anything but line ends is among them
 pub record WasSeen (buf : List ℕ) (seen : ℕ) (before : Bool) : Type 0 where

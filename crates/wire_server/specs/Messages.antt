@@ -1,16 +1,17 @@
 -- How an input divides from its beginning into messages, and what one read of a message leaves.
 use Rattle.std.specs.Prelude.{◌≡◌, ◌⊎◌, ℕ, ◌+◌, ◌<◌, ◌≤◌, max, List, [], ◌++◌, length, Option, Result, Ok, Err, Bool}
-use Rattle.std.specs.Prelude.{true, false, IfOk, IfErr, IfSome, OnOk}
+use Rattle.std.specs.Prelude.{true, false, IfOk, IfErr, IfSome, OnOk, IsErr}
 use Rattle.std.specs.Io.KnownBytes.{Consumes, IsAtEnd}
-use Rattle.httparse.specs.Grammar.{RequestHead, HasNoRequest}
+use Rattle.httparse.specs.Grammar.{RequestHead, ReadsRequest, HasNoRequest}
 use Rattle.httparse.specs.declared.Status.{Status}
 use Rattle.httparse.specs.declared.Status.TheVariants.{Complete, Partial}
-use Rattle.wire_server.specs.Heads.{IsHead, HasNoHead, Holds, max_head}
+use Rattle.wire_server.specs.Heads.{IsHead, HasNoHead, Holds, ShowsNoHead, ShowsNothing, has_begun_in, max_head}
 use Rattle.wire_server.specs.Fields.{fields_of, body_length}
 use Rattle.wire_server.specs.declared.head.Head.{Head}
 use Rattle.wire_server.specs.declared.error.Fault.{Fault}
 use Rattle.wire_server.specs.declared.error.Fault.TheVariants.{BadHead, BadLength, TooLarge}
 use Rattle.wire_server.specs.declared.error.WireError.{WireError}
+use Rattle.wire_server.specs.declared.error.WireError.TheVariants.{Read}
 use Rattle.wire_server.specs.Bodies.{IsOfReading}
 use Rattle.wire_server.specs.declared.message.Received.{Received}
 use Rattle.wire_server.specs.declared.message.Received.TheVariants.{End, Message, Faulty}
@@ -31,6 +32,11 @@ EndsInside input =
     (h : RequestHead) × (after : List ℕ) × (size : ℕ) × IsHead input h after × (body_length (fields_of h) ≡ Ok size)
     × (length after < size)
 
+-- Whether the bytes begin with a message shows only with more of them: no head has come, in fewer bytes than the most of
+-- a head, and no line shows that there is none; or they end inside a body.
+abbrev pub AwaitsMore : List ℕ → Type 0
+AwaitsMore bytes = (HasNoRequest bytes × (length bytes < max_head) × ShowsNothing bytes) ⊎ EndsInside bytes
+
 -- The input begins with no message, for this fault.
 abbrev pub IsFault : List ℕ → Fault → Type 0
 IsFault input BadHead = HasNoHead input
@@ -45,11 +51,16 @@ LookFinds buf (Ok (Complete head)) = (h : RequestHead) × Holds buf head h
 LookFinds buf (Ok Partial) = HasNoRequest buf × (length buf < max_head)
 LookFinds buf (Err fault) = (more : List ℕ) → IsFault (buf ++ more) fault
 
+-- a line that ends after the bytes that were seen, and shows that there is no head, is answered at once
+abbrev pub FindsSoon : {T : Type 0} → List ℕ → ℕ → Result T Fault → Type 0
+FindsSoon buf seen result = (line after : List ℕ) → ShowsNoHead buf line after → seen ≤ length line → IsErr result
+
 -- One more read: the bytes that it took, at most 4,096, are appended to those that were held. It took at least one
--- byte, or the input was at its end.
+-- byte, or the input was at its end. If it failed it took none.
 pub record ReadsMore (old new : Option (List ℕ)) (held held' : List ℕ)
     (result : Result Bool WireError) : Type 0 where
   pub consumed : (bs : List ℕ) × Consumes old new bs × OnOk result (held' ≡ held ++ bs)
+      × IfErr result (λ e. e ≡ Read → bs ≡ [])
   pub some : result ≡ Ok true → length held < length held'
   pub at_end : result ≡ Ok false → IsAtEnd new × (held' ≡ held)
   pub few : IfOk result (λ _. length held' ≤ length held + 4096)
@@ -59,10 +70,17 @@ pub record ReadsMore (old new : Option (List ℕ)) (held held' : List ℕ)
 abbrev pub HoldsTo : ℕ → ℕ → List ℕ → Type 0
 HoldsTo n end held = length held ≤ max n (end + 4095)
 
--- How far an input was read where no message begins: to its end, if it ends inside a body; or at most 4,095 bytes after
--- the most bytes of a head.
+-- No more is held than `HoldsTo` allows after the most bytes of a head, after the head of a request, however long, and
+-- after a line, more than line ends, that shows that there is none.
+pub record HoldsLittle (n : ℕ) (bytes : List ℕ) : Type 0 where
+  pub most : HoldsTo n max_head bytes
+  pub head : (h : RequestHead) (after : List ℕ) → ReadsRequest bytes h after → length after ≤ max n 4095
+  pub line : (line after : List ℕ) → ShowsNoHead bytes line after → has_begun_in line ≡ true → length after ≤ max n 4095
+
+-- How far an input was read where no message begins: to its end, if it ends inside a body; or no further than
+-- `HoldsLittle` says.
 abbrev pub ReadsTo : ℕ → List ℕ → Option (List ℕ) → Type 0
-ReadsTo n bytes rest = (IsAtEnd rest × EndsInside bytes) ⊎ HoldsTo n max_head bytes
+ReadsTo n bytes rest = (IsAtEnd rest × EndsInside bytes) ⊎ HoldsLittle n bytes
 
 -- The bytes, with what may follow them, begin with what this says of them; or with no message, for that fault, and then
 -- no more were read than `ReadsTo` says; or there are none, at the end of the input. Before, n bytes were held.
@@ -93,9 +111,10 @@ abbrev pub Announces : ℕ → List ℕ → Option (List ℕ) → Received (Head
 Announces n held = IsReceived n (λ it. HoldsHead held it.0 it.1 × HoldsTo n it.0.spans.len held) held
 
 -- The bytes that were read are appended to those that were held, and the result is right for them and for what may
--- follow, or it is an error of the reading.
+-- follow, or it is an error of the reading. If a read failed, more was awaited.
 abbrev pub Receives : {A : Type 0} → (List ℕ → Option (List ℕ) → A → Type 0) → Option (List ℕ) → Option (List ℕ)
     → List ℕ → List ℕ → Result A WireError → Type 0
 Receives is old new held held' result =
-    ((bs : List ℕ) × Consumes old new bs × OnOk result (held' ≡ held ++ bs)) × IfOk result (is held' new)
-    × IfErr result IsOfReading
+    ((bs : List ℕ) × Consumes old new bs × OnOk result (held' ≡ held ++ bs)
+    × IfErr result (λ e. e ≡ Read → AwaitsMore (held ++ bs)))
+    × IfOk result (is held' new) × IfErr result IsOfReading

@@ -1,8 +1,8 @@
 //! The head of a message at the beginning of a buffer.
-ghost use Rattle.std.specs.Prelude.{◌≡◌, ◌≤◌, ◌||◌, take, length};
+ghost use Rattle.std.specs.Prelude.{◌≡◌, ◌≤◌, ◌||◌, true, take, length};
 ghost use Rattle.httparse.specs.Grammar.{HasNoRequest};
 ghost use Rattle.wire_server.specs.Heads.{WasSeen, has_begun_in};
-ghost use Rattle.wire_server.specs.Messages.{LookFinds};
+ghost use Rattle.wire_server.specs.Messages.{LookFinds, FindsSoon};
 
 use crate::error::Fault;
 use httparse::Status;
@@ -28,7 +28,8 @@ pub struct Head {
 pub fn look_for_head(buf: &[u8], seen: usize) -> Result<Status<Head>, Fault>
     requires within { seen ≤ length buf.now }
     requires none { HasNoRequest (take seen buf.now) }
-    ensures { LookFinds buf.now result }
+    ensures found { LookFinds buf.now result }
+    ensures soon { FindsSoon buf.now seen result }
 {
     if !buf[seen..].contains(&b'\n') {
         return without_head(buf);
@@ -71,6 +72,7 @@ pub(crate) fn look_again(
     requires { WasSeen buf.now seen before }
     ensures begun { result.0 ≡ has_begun_in buf.now }
     ensures found { LookFinds buf.now result.1 }
+    ensures soon { has_begun_in buf.now ≡ true → FindsSoon buf.now seen result.1 }
 {
     let begun = has_begun(before, &buf[seen..]);
     if begun {

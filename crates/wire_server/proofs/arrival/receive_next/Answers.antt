@@ -23,4 +23,4 @@ pub returns-in_err-head : goal.returns-in_err-head
 returns-in_err-head g c =
     let p = err_from_is_err_and c.from_residual.result c.from_residual.ensures.1 in
     let got = c.in_err-head.ensures in
-    rw (p.1, p.2) (got.0.0, got.0.1, got.2)
+    rw (p.1, p.2) (got.0.0, got.0.1, (got.2, got.0.3))

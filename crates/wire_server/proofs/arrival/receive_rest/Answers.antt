@@ -1,8 +1,9 @@
-use Rattle.std.proofs.Common.{◌++◌, Ok, ap}
+use Rattle.std.proofs.Common.{◌++◌, Ok, Err, ap}
 use Rattle.std.proofs.lemmas.Result.{err_from_is_err_and}
 use Rattle.wire_server.specs.Answers.{body_in}
 use Rattle.wire_server.specs.declared.responder.Begun.TheVariants.{Accepted, Refused}
 use Rattle.wire_server.proofs.Arrived.{cut_short, whole_arrives}
+use Rattle.wire_server.proofs.Waiting.{awaits_body}
 use Rattle.wire_server.proofs.arrival.receive_rest.Goals as goal
 
 pub returns-then-branch : goal.returns-then-branch
@@ -33,7 +34,16 @@ pub returns-in_err-receive_body-in-Accepted : goal.returns-in_err-receive_body-i
 returns-in_err-receive_body-in-Accepted g c = λ n near.
     let p = err_from_is_err_and c.from_residual.result c.from_residual.ensures.1 in
     let got = c.in_err-receive_body-in-Accepted.ensures in
-    rw (p.1, p.2) (got.came.read, got.came.consumed, got.fault)
+    rw (p.1, p.2) (
+      got.came.read,
+      got.came.consumed,
+      (
+        got.fault,
+        λ failed.
+            awaits_body c.args.held.now got.came.read c.args.head c.args.size c.requires.head
+            (got.missing (ap Err failed)),
+      ),
+    )
 
 pub returns-then-branch-2 : goal.returns-then-branch-2
 returns-then-branch-2 g c = λ n near.
@@ -65,4 +75,13 @@ returns-in_err-receive_body-in-Refused g c = λ n near.
     err_from_is_err_and c.from_residual-in_err-receive_body-in-Refused.result
     c.from_residual-in_err-receive_body-in-Refused.ensures.1 in
     let got = c.in_err-receive_body-in-Refused.ensures in
-    rw (p.1, p.2) (got.came.read, got.came.consumed, got.fault)
+    rw (p.1, p.2) (
+      got.came.read,
+      got.came.consumed,
+      (
+        got.fault,
+        λ failed.
+            awaits_body c.args.held.now got.came.read c.args.head c.args.size c.requires.head
+            (got.missing (ap Err failed)),
+      ),
+    )

@@ -1,4 +1,5 @@
-use Rattle.std.proofs.Common.{◌≡◌, Bool, sym, ap, ◌∙◌, ◌-◌, arith, length, take, drop, take_all, length-drop}
+use Rattle.std.proofs.Common.{◌≡◌, Bool, true, false, sym, ap, ◌∙◌, ◌-◌, arith, length, take, drop, take_all}
+use Rattle.std.proofs.Common.{length-drop}
 use Rattle.std.specs.Prelude.{◌||◌, List, ℕ}
 use Rattle.wire_server.specs.Heads.{WasSeen, has_begun_in}
 use Rattle.wire_server.proofs.Beginnings.{has_begun_in-parts, none_in_line_ends}
@@ -27,3 +28,10 @@ returns-else-begun-clause-found c =
     begun_of c.args.buf.now c.args.seen c.args.before c.has_begun-begun.result c.requires
     c.has_begun-begun.ensures in
     c.without_head.ensures (none_in_line_ends c.args.buf.now (sym is ∙ c.if-begun.false))
+
+pub returns-else-begun-clause-soon : goal.returns-else-begun-clause-soon
+returns-else-begun-clause-soon c = λ has line after shows later.
+    let is =
+    begun_of c.args.buf.now c.args.seen c.args.before c.has_begun-begun.result c.requires
+    c.has_begun-begun.ensures in
+    absurd (let both : true ≡ false = sym has ∙ sym is ∙ c.if-begun.false in cc)

@@ -1,6 +1,7 @@
-use Rattle.std.proofs.Common.{◌++◌, arith, length-append}
+use Rattle.std.proofs.Common.{◌≡◌, ◌++◌, ap, arith, length, length-append}
 use Rattle.std.proofs.KnownBytes.{Consumes-trans}
 use Rattle.std.proofs.lemmas.Result.{err_from_is_err_and}
+use Rattle.wire_server.specs.declared.error.WireError.TheVariants.{Read}
 use Rattle.wire_server.proofs.Came.{grows_more}
 use Rattle.wire_server.proofs.keeper.keep_out.Goals as goal
 
@@ -18,6 +19,10 @@ returns-in_err-count g c =
             short = λ e. absurd cc;
           };
       kept = λ e. absurd cc;
+      missing = λ e.
+          let is : c.in_err-count.field-0.0 ≡ Read = cc in
+          let none = ap length (got.0.2 is) in
+          omega (arith, length-append before.0 got.0.0, before.2, none, c.reads-test.true);
       fault = got.1;
     })
 

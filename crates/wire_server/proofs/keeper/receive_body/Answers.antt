@@ -1,4 +1,4 @@
-use Rattle.std.proofs.Common.{◌≡◌, ◌-◌, length, take, drop, min, ap, subst, ◌∙◌, arith, length-drop}
+use Rattle.std.proofs.Common.{◌≡◌, ◌-◌, length, take, drop, min, ap, subst, ◌∙◌, arith, length-append, length-drop}
 use Rattle.std.proofs.lemmas.List.{take_all}
 use Rattle.wire_server.specs.Bodies.{Grows}
 use Rattle.wire_server.proofs.Came.{body_came, body_kept}
@@ -27,5 +27,6 @@ returns g c =
           body_kept _ _ held len c.args.size missing rest.read c.keep_rest.result c.requires left rest.came c.min.result
           start mid (g.K.Keeper.represents c.keep_rest.new.body) e count
           (subst (λ piece. Grows start mid piece) first c.in_ok-keep.ensures) (rest.kept e);
+      missing = λ e. omega (arith, rest.missing e, length-append held rest.read, left, c.requires);
       fault = rest.fault;
     }

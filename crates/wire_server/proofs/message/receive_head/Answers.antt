@@ -1,7 +1,8 @@
 use Rattle.std.proofs.Common.{◌≡◌, ℕ, List, ◌++◌, length, sym, ap₂, ◌∙◌, inr, Err}
 use Rattle.wire_server.specs.Messages.{IsFault}
 use Rattle.wire_server.specs.Fields.{fields_at, body_length}
-use Rattle.wire_server.proofs.Reading.{fault_of_head, head_near, is_fault, whatever}
+use Rattle.wire_server.proofs.Lines.{little_after}
+use Rattle.wire_server.proofs.Reading.{fault_of_head, is_fault, whatever}
 use Rattle.wire_server.proofs.message.receive_head.Goals as goal
 
 -- src/receive.rt:95:1
@@ -16,5 +17,5 @@ returns-in-Err g c =
     let whole =
     λ (more : List ℕ). is_fault (held ++ more) fault
     (fault_of_head held c.in-Message.head start.1.1.0 fault start.1.1.1 states more) in
-    let near = head_near held c.in-Message.head start.1.1.0 (length c.args.buffer.now.items) start.1.1.1 start.1.2 in
-    ((start.0.0, start.0.1, start.0.2), (start.1.0, whatever (λ t. IsFault t fault) held _ whole, inr near), tt)
+    let near = little_after (length c.args.buffer.now.items) held c.in-Message.head start.1.1.0 start.1.1.1 start.1.2 in
+    ((start.0.0, start.0.1, start.0.2, tt), (start.1.0, whatever (λ t. IsFault t fault) held _ whole, inr near), tt)
