@@ -1,6 +1,6 @@
 -- Names in order, each once, are as many as before if and only if no two were the same.
-use Rattle.std.proofs.Common.{◌≡◌, ◌≢◌, ℕ, zero, suc, ◌+◌, ◌<◌, ◌≤◌, Bool, true, false, cond, eqb, List, [], ◌∷◌}
-use Rattle.std.proofs.Common.{length, map, take, Bor, refl, sym, ap, subst, ◌∙◌, arith, inl, inr, ◌⊎◌, take_all}
+use Rattle.std.proofs.Common.{◌≡◌, ℕ, suc, ◌≤◌, Bool, false, cond, eqb, List, [], ◌∷◌}
+use Rattle.std.proofs.Common.{length, map, Bor, refl, sym, ap, subst, ◌∙◌, arith, inl, inr}
 use Rattle.std.specs.Prelude.{IsPermutation, string_bytes}
 use Rattle.std.specs.List.{AllByRecursion, IsDistinct, dedup, dedup_from}
 use Rattle.std.specs.List.Sorted.{IsStrictlySortedBy}

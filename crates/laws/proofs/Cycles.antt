@@ -1,6 +1,6 @@
 -- A group of more than one path is the first dead path left in path order, and all left that reach it by references.
-use Rattle.std.proofs.Common.{◌≡◌, ◌<◌, List, [], ◌∷◌, length, Bool, not, ◌&&◌, Some, None, Option, refl, sym, ap}
-use Rattle.std.proofs.Common.{arith, ◌∙◌, subst}
+use Rattle.std.proofs.Common.{◌≡◌, ◌<◌, List, [], ◌∷◌, length, Bool, not, ◌&&◌, Some, None, Option, refl, ap}
+use Rattle.std.proofs.Common.{arith, subst}
 use Rattle.std.specs.Prelude.{is_some}
 use Rattle.std.specs.List.{filter, find}
 use Rattle.std.specs.List.Sorted.{IsStrictlySortedBy}
@@ -9,7 +9,7 @@ use Rattle.std.proofs.lemmas.Bool.{false≢true}
 use Rattle.paths.specs.Root.{bytes_cmp}
 use Rattle.live.specs.Graph.{Path, Graph, references_only}
 use Rattle.live.specs.Reach.{reaches}
-use Rattle.live.specs.Limited.{is_referred_to, next_group}
+use Rattle.live.specs.Limited.{is_referred_to}
 use Rattle.live.proofs.Groups.{in_filter, filter_in}
 use Rattle.live.proofs.Members.{found}
 use Rattle.laws.specs.Cycles.{IsCycle, CyclesAreDeletedByTheLeast}

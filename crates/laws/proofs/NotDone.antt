@@ -1,7 +1,7 @@
 -- A request that has a fault isn't done.
-use Rattle.std.proofs.Common.{◌≡◌, ℕ, ◌<◌, List, length, Bool, true, false, not, ◌&&◌, ◌||◌, Some, None, Option, refl}
+use Rattle.std.proofs.Common.{◌≡◌, ℕ, ◌<◌, List, length, Bool, not, ◌&&◌, Some, None, Option, refl}
 use Rattle.std.proofs.Common.{sym, ap, arith, ◌∙◌, IsTrue, inl, inr, ◌⊎◌}
-use Rattle.std.specs.Prelude.{◌==◌, nat_le, is_none, is_some, IsFalse}
+use Rattle.std.specs.Prelude.{◌==◌, nat_le, is_some, IsFalse}
 use Rattle.std.specs.List.{list_all}
 use Rattle.std.specs.FinMap as finite
 use Rattle.std.proofs.lemmas.Bool.{and_parts, eq-eqb, false≢true, leb-true}
@@ -19,10 +19,10 @@ use Rattle.policy.specs.Settings.{Settings}
 use Rattle.model.specs.World.{Path, Pair, World, has}
 use Rattle.model.specs.Objects.{most_references}
 use Rattle.nar.specs.Archive.{limit}
-use Rattle.model.specs.Request.{Imported, Request, add_text, add_source, import_object, info, nar, ls, list, list_live}
-use Rattle.model.specs.Request.{list_dead, list_roots, list_roots_of, set_permanent, drop_permanent, set_user_root}
+use Rattle.model.specs.Request.{Imported, Request, add_text, add_source, import_object, info, nar, ls}
+use Rattle.model.specs.Request.{list_roots_of, set_permanent, drop_permanent, set_user_root}
 use Rattle.model.specs.Request.{drop_user_root, set_profile, rollback, switch, delete_generation, replace_runtime}
-use Rattle.model.specs.Request.{add_temp, end_session, collect, delete, report}
+use Rattle.model.specs.Request.{add_temp, end_session, delete}
 use Rattle.model.specs.declared.refusal.Refusal.{Refusal}
 use Rattle.model.specs.declared.refusal.Refusal.TheVariants.{TooLarge, CaMismatch, BadDerivation, DoubleOutput}
 use Rattle.model.specs.declared.refusal.Refusal.TheVariants.{NotValid, MissingReference, NarHashMismatch, SelfReference}

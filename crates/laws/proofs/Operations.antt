@@ -1,16 +1,9 @@
 -- Which requests are plain.
 use Rattle.std.proofs.Common.{◌≡◌, ◌⊎◌, inl, inr}
-use Rattle.policy.specs.Settings.{Settings}
-use Rattle.policy.specs.Caller.{Caller}
-use Rattle.policy.specs.Operation.{plain}
-use Rattle.model.specs.World.{World}
-use Rattle.model.specs.Request.{Request, add_text, add_source, import_object, info, nar, ls, list, list_live, list_dead}
+use Rattle.model.specs.Request.{add_text, add_source, import_object, info, nar, ls, list, list_live, list_dead}
 use Rattle.model.specs.Request.{list_roots, list_roots_of, set_permanent, drop_permanent, set_user_root, drop_user_root}
 use Rattle.model.specs.Request.{set_profile, rollback, switch, delete_generation, replace_runtime, add_temp}
 use Rattle.model.specs.Request.{end_session, collect, delete, report}
-use Rattle.model.specs.Reply.{Reply}
-use Rattle.model.specs.Step.{Step}
-use Rattle.model.specs.Verdict.{operation_of}
 use Rattle.laws.specs.ReadOnly.{OnlyReads}
 use Rattle.laws.specs.Operations.{AddsByContents, ReadsAndAddsAlonePlain, PlainRequestsOnlyAdd}
 use Rattle.laws.proofs.ObjectListings.{reporting_changes_nothing}

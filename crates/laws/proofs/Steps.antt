@@ -1,6 +1,6 @@
 -- Marking takes at most a step for each object, each entry that counts and each root.
-use Rattle.std.proofs.Common.{ℕ, ◌+◌, ◌≤◌, List, [], ◌∷◌, length, Bool, true, false, arith}
-use Rattle.std.specs.Prelude.{if◌then◌else◌, nat_lt, map, sum_by}
+use Rattle.std.proofs.Common.{ℕ, ◌≤◌, List, [], ◌∷◌, length, Bool, true, false, arith}
+use Rattle.std.specs.Prelude.{if◌then◌else◌, nat_lt, map}
 use Rattle.std.proofs.lemmas.List.Sums.{sum_by-cons}
 use Rattle.live.specs.Graph.{Keep}
 use Rattle.live.specs.Places.{Entries, counting}

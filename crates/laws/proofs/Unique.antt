@@ -1,5 +1,5 @@
 -- Two runs with the same replies lead to one world.
-use Rattle.std.proofs.Common.{◌≡◌, [], ◌∷◌, sym, ◌∙◌, refl, subst}
+use Rattle.std.proofs.Common.{[], ◌∷◌, sym, ◌∙◌, refl, subst}
 use Rattle.model.specs.World.{World}
 use Rattle.model.specs.Reply.{Reply, done, denied, refused, failed}
 use Rattle.model.specs.Step.{Run}

@@ -1,5 +1,5 @@
 -- Laws of steps and runs.
-use Rattle.std.specs.Prelude.{◌≡◌, ◌⊎◌, ℕ, ◌+◌, ◌++◌, false, List, [], ◌∷◌, Option, Some, None, IsTrue}
+use Rattle.std.specs.Prelude.{◌≡◌, ◌⊎◌, ◌+◌, ◌++◌, false, List, ◌∷◌, Option, Some, None, IsTrue}
 use Rattle.paths.specs.Root.{Root}
 use Rattle.live.specs.Live.{IsFirstRoot}
 use Rattle.model.specs.World.{Path, Pair, World, roots_of}

@@ -12,7 +12,7 @@ use Rattle.live.specs.Places.{AllInside, Entries, edges_at, entries_at, held, no
 use Rattle.live.specs.Marks.{Frontier, IsDequeued, NoneWaits, all_reached, marked_cost, reached, reported}
 use Rattle.live.specs.Sources.{AreSources, times_among}
 use Rattle.live.specs.Reaching.{IsReaching, IsVisited, cost_to, costs_to, edges_to}
-use Rattle.live.proofs.Backs.{AreInto, IsBack, begin, finish, fresh, grown_begun, places_begun, quiet}
+use Rattle.live.proofs.Backs.{AreInto, IsBack, begin, finish, grown_begun, places_begun, quiet}
 use Rattle.live.proofs.Backs as backs
 use Rattle.live.proofs.Members.{at_head, behind, no_member}
 use Rattle.live.proofs.OneRoot.{consumed_costs, nothing_costs, waiting_cost, waiting_count}

@@ -16,7 +16,7 @@ use Rattle.live.specs.Numbering.{paths_of, root_at}
 use Rattle.live.specs.Reach as by_path
 use Rattle.live.specs.Reach.{refers_to_any}
 use Rattle.live.specs.Places as by_place
-use Rattle.live.specs.Places.{Entries, edges_at}
+use Rattle.live.specs.Places.{Entries}
 use Rattle.live.specs.Backward.{IsBackward, ReachesAny}
 use Rattle.live.specs.Marks.{marked_cost, reported}
 use Rattle.live.specs.Reaching.{AreNumbers, AreTargets, AreUsed, IsExactlyReaching, IsReaching, Reaching, cost_to}

@@ -1,6 +1,6 @@
 -- What std reads of a text, and the number that the text writes.
 use Rattle.std.proofs.Common.{◌≡◌, ◌<◌, ◌^◌, ◌&&◌, ◌||◌, ℕ, Bool, cond, true, false, not, List, [], ◌∷◌, length, drop}
-use Rattle.std.proofs.Common.{nat_lt, refl, rules, ap, ap₂, sym, subst, ◌∙◌, lt-ltb, ltb-true, Some, None, Option}
+use Rattle.std.proofs.Common.{nat_lt, refl, ap, ap₂, sym, subst, ◌∙◌, lt-ltb, ltb-true, Some, None}
 use Rattle.std.proofs.lemmas.Bool.{eqb-true}
 use Rattle.std.specs.Prelude.{◌==◌, if◌then◌else◌, slice_index}
 use Rattle.std.specs.List.{list_all}

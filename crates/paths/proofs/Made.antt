@@ -1,7 +1,7 @@
 -- Computed paths are base names, and addresses verify if and only if they fit.
-use Rattle.std.proofs.Common.{◌≡◌, ◌↔◌, ℕ, Bool, true, false, List, [], ◌∷◌, ◌++◌, length, drop, Option, Some, None}
+use Rattle.std.proofs.Common.{◌≡◌, ◌↔◌, ℕ, Bool, true, false, List, [], ◌∷◌, ◌++◌, length, drop}
 use Rattle.std.proofs.Common.{Result, Ok, Err, refl, ap, sym, subst, ◌∙◌, arith, length-append}
-use Rattle.std.specs.Prelude.{codes, IsTrue, ◌&&◌}
+use Rattle.std.specs.Prelude.{codes, ◌&&◌}
 use Rattle.std.specs.Str.{bytes_eq}
 use Rattle.std.proofs.Math.Seq.{drop-append_seam}
 use Rattle.std.proofs.lemmas.Bool.{and_parts}
@@ -19,9 +19,8 @@ use Rattle.paths.specs.StorePath.{is_base_name, name_of}
 use Rattle.paths.specs.Base32.{base32}
 use Rattle.paths.specs.Fold.{fold20}
 use Rattle.paths.specs.Path.{fingerprint_of, in_path_order, IsPathOf, path_of, text_path, source_path}
-use Rattle.paths.specs.ContentAddress.{ContentAddress, plain, plain_contents, is_made_of, text_verifies}
-use Rattle.paths.specs.ContentAddress.{method_verifies, Fits, FitsText, FitsSource, Verifies, verifies, text_address}
-use Rattle.paths.specs.ContentAddress.{source_address}
+use Rattle.paths.specs.ContentAddress.{plain_contents, is_made_of, text_verifies}
+use Rattle.paths.specs.ContentAddress.{method_verifies, Fits, FitsText}
 use Rattle.paths.specs.Laws as laws
 use Rattle.paths.proofs.PathText.{is_base_name-join}
 use Rattle.paths.proofs.Spelling.{base32-count, base32-digits}

@@ -1,7 +1,7 @@
 -- The references of a list in path order: one list fits, and it is the function's.
-use Rattle.std.proofs.Common.{◌≡◌, ◌↔◌, ℕ, Bool, true, false, List, [], ◌∷◌, ◌++◌, map, T, ap, sym, subst, refl, ◌∙◌}
+use Rattle.std.proofs.Common.{◌≡◌, ℕ, Bool, true, false, List, [], ◌∷◌, ◌++◌, map, T, ap, sym, subst, refl, ◌∙◌}
 use Rattle.std.proofs.Common.{Less, Equal, Greater, Some, None, Option, is_some}
-use Rattle.std.specs.Prelude.{Contains, codes, ◌&&◌}
+use Rattle.std.specs.Prelude.{codes, ◌&&◌}
 use Rattle.std.specs.List.{AllByRecursion, list_any}
 use Rattle.std.specs.List.Sorted.{IsStrictlySortedBy}
 use Rattle.std.specs.declared.cmp.Ordering.{Ordering}

@@ -1,5 +1,5 @@
 -- What a path text says below a store directory.
-use Rattle.std.proofs.Common.{◌≡◌, ◌≢◌, ℕ, ◌+◌, Bool, true, false, cond, ◌<◌, ◌≤◌, ◌&&◌, List, [], ◌∷◌, ◌++◌, length}
+use Rattle.std.proofs.Common.{◌≡◌, ◌≢◌, ℕ, ◌+◌, Bool, true, cond, ◌<◌, ◌≤◌, ◌&&◌, List, [], ◌∷◌, ◌++◌, length}
 use Rattle.std.proofs.Common.{take, drop, get_or, drop-cons, take-append-drop, append_assoc, length-append, ap, sym}
 use Rattle.std.proofs.Common.{refl, ◌∙◌, arith, inl, inr}
 use Rattle.std.proofs.Math.Seq.{take-append_seam, drop-append_seam, get_or-append_seam}

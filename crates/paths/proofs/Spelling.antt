@@ -1,6 +1,6 @@
 -- A text spells some bytes if and only if it is their base 32, and the two directions undo each other.
 use Rattle.std.proofs.Common.{◌≡◌, ◌≢◌, ℕ, zero, suc, ◌+◌, ◌-◌, ◌*◌, ◌/◌, ◌%◌, ◌^◌, ◌<◌, ◌≤◌, ◌==◌, nat_lt, Bool, true}
-use Rattle.std.proofs.Common.{false, not, cond, List, [], ◌∷◌, ◌++◌, length, take, get_or, length-append, Result, Ok}
+use Rattle.std.proofs.Common.{false, not, cond, List, [], ◌∷◌, ◌++◌, length, take, get_or, length-append, Ok}
 use Rattle.std.proofs.Common.{Err, sym, subst, ap, ap₂, refl, ◌∙◌, arith, lit<, take_all}
 use Rattle.std.specs.List.{list_all, range_with_len}
 use Rattle.std.proofs.lemmas.Bool.{lt-ltb, ltb-true, eq-eqb, ne_eqb}

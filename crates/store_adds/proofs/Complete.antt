@@ -1,5 +1,5 @@
 -- Whether the references of an object are all valid.
-use Rattle.std.proofs.Common.{◌||◌, ◌≡◌, List, [], sym, ap, ◌∙◌}
+use Rattle.std.proofs.Common.{◌||◌, ◌≡◌, List, sym, ap, ◌∙◌}
 use Rattle.std.specs.List.{list_all}
 use Rattle.model.specs.World.{Path, World}
 use Rattle.tables_outline.specs.Outline.{OutlineValue, outline_of}

@@ -1,6 +1,6 @@
 -- Tables over a connection whose rows were read by a schema, and then brought to the third: they agree, and show the
 -- world of the rows.
-use Rattle.std.proofs.Common.{◌≡◌, ℕ, false, List, Result, Ok, refl, sym, ap, subst, ◌∙◌, IsTrue}
+use Rattle.std.proofs.Common.{◌≡◌, ℕ, false, List, Ok, refl, sym, ap, subst, ◌∙◌, IsTrue}
 use Rattle.sqlite_trees.specs.declared.store.Store.{Ghosts}
 use Rattle.sqlite.specs.Effect.{Database}
 use Rattle.sqlite.specs.State.{State, HasCleanDisk, IsUnchanged, Survives}

@@ -1,10 +1,9 @@
 -- Why a migration failed, one step after another.
-use Rattle.std.proofs.Common.{◌≡◌, ◌+◌, ◌⊎◌, inl, inr, List, true, false, Result, Ok, Err, refl, sym, ap, subst, ◌∙◌}
-use Rattle.std.proofs.Common.{arith, IsTrue}
+use Rattle.std.proofs.Common.{◌≡◌, ◌+◌, ◌⊎◌, inl, inr, true, sym, subst, ◌∙◌}
+use Rattle.std.proofs.Common.{arith}
 use Rattle.std.specs.Prelude.{IsSome}
 use Rattle.std.specs.List.{AllByRecursion}
 use Rattle.sqlite_schema.specs.declared.schema.Schema.{Schema as Shown}
-use Rattle.sqlite_schema.specs.declared.schema.Table.{Table}
 use Rattle.sqlite_trees.specs.declared.store.Store.{Ghosts}
 use Rattle.sqlite_trees.specs.Tree.{Trees}
 use Rattle.sqlite.specs.Effect.{Database}
@@ -17,7 +16,7 @@ use Rattle.tables_sql.specs.Failures.{HasDiskCause, FailsFor, FailsToCommit}
 use Rattle.tables_sql.specs.declared.failure.Failed.{Failed}
 use Rattle.tables_sql.specs.declared.failure.Failed.TheVariants.{Memory, Size, Disk}
 use Rattle.tables_make.specs.Further.{MakesFurther, grown}
-use Rattle.tables_make.specs.NewTables.{FailsToMakeThese, IsIndexNameUsed, RunsOutOfTrees, placed}
+use Rattle.tables_make.specs.NewTables.{IsIndexNameUsed, RunsOutOfTrees, placed}
 use Rattle.tables_make.specs.Migrated.{Grows, missing_tables}
 use Rattle.tables_make.specs.Migrating.{FailsToMigrate, FailsToPutBy, MigratedRows, with_missing}
 use Rattle.tables_rows.specs.Reasons.{IsReason, IsWithin, RunsOutOfRowids, Rows}

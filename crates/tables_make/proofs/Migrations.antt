@@ -20,7 +20,7 @@ use Rattle.tables_sql.proofs.Transactions.{survives_begun}
 use Rattle.tables_world.specs.Worlds.{IsSoundBy}
 use Rattle.tables_make.specs.NewTables.{placed}
 use Rattle.tables_make.specs.Further.{grown}
-use Rattle.tables_make.specs.Migrated.{missing_tables, migrated_contents, Grows, IsGrown, LeavesMigrated}
+use Rattle.tables_make.specs.Migrated.{missing_tables, migrated_contents, Grows, IsGrown}
 use Rattle.tables_make.specs.Migrating.{FailsToMigrate, FailsToPutBy}
 use Rattle.tables_rows.specs.Reasons.{Rows}
 use Rattle.tables_make.specs.Commits.{CommitsMigration, MayMigrate, Migrates}

@@ -3,7 +3,7 @@ use Rattle.std.specs.Prelude.{◌≡◌, ◌⊎◌, ◌<◌, ℤ, List, [], ◌�
 use Rattle.std.specs.FinMap as finite
 use Rattle.sqlite_value.specs.declared.value.Value.TheVariants.{Text}
 use Rattle.sqlite.specs.State.{State}
-use Rattle.tables_schema.specs.Forms.{meta, object, piece}
+use Rattle.tables_schema.specs.Forms.{meta}
 use Rattle.tables_schema.specs.declared.schema.Schema.{Schema}
 use Rattle.tables_schema.specs.declared.schema.Schema.TheVariants.{V1, V2, V3}
 use Rattle.tables_schema.specs.Schemas.{schema_text}

@@ -1,5 +1,5 @@
 -- Links of objects, turned round, as the objects change.
-use Rattle.std.proofs.Common.{◌≡◌, List, [], ◌∷◌, Bool, true, false, ◌&&◌, ◌||◌, not, cond, Some, None, Option}
+use Rattle.std.proofs.Common.{◌≡◌, List, Bool, true, false, ◌&&◌, ◌||◌, not, cond, Some, None, Option}
 use Rattle.std.proofs.Common.{option_map, is_some, Bor, refl, sym, ap, ◌∙◌, subst}
 use Rattle.std.specs.Prelude.{IfOk, IfSome, Result, Ok, Err, if◌then◌else◌}
 use Rattle.std.specs.Result.{result_ok}
@@ -8,7 +8,7 @@ use Rattle.std.specs.FinMap as finite
 use Rattle.paths.specs.Root.{bytes_cmp}
 use Rattle.live.specs.Graph.{Links, holds, listed, same}
 use Rattle.model.specs.World.{Path}
-use Rattle.tables_outline.specs.Links.{AreLinksOf, AreRemoved, IsAdded, IsRemoved, LinksValue, is_held, is_linked}
+use Rattle.tables_outline.specs.Links.{AreLinksOf, AreRemoved, IsAdded, IsRemoved, LinksValue, is_held}
 use Rattle.tables_outline.specs.Links.{links_found}
 use Rattle.tables_outline.specs.Changes.{ChangesTo}
 use Rattle.tables_outline.specs.Outline.{Outlined}

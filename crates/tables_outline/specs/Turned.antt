@@ -3,7 +3,7 @@ use Rattle.std.specs.Prelude.{List, Option, IfSome}
 use Rattle.std.specs.Option.{option_map}
 use Rattle.std.specs.FinMap as finite
 use Rattle.paths.specs.Root.{bytes_cmp}
-use Rattle.live.specs.Graph.{Links, holds}
+use Rattle.live.specs.Graph.{Links}
 use Rattle.model.specs.World.{Path}
 use Rattle.tables_outline.specs.Links.{AreLinksOf, LinksValue}
 use Rattle.tables_outline.specs.Maps.{seen_map}

@@ -1,5 +1,5 @@
 -- Several reads, one after another, and what they promise together.
-use Rattle.std.proofs.Common.{◌≡◌, Result, Ok, Err, IsErrAnd, IfErr, IfOk}
+use Rattle.std.proofs.Common.{◌≡◌, Result, Ok, Err, IsErrAnd, IfOk}
 use Rattle.std.specs.Prelude.{OnOk}
 use Rattle.sqlite_trees.specs.declared.store.Store.{Ghosts}
 use Rattle.sqlite.specs.State.{State, HasCleanDisk, IsUnchanged}

@@ -1,5 +1,5 @@
 -- The world that the rows of the tables have, by each of the three schemas, and when they are sound.
-use Rattle.std.specs.Prelude.{◌≡◌, ℕ, ℤ, pos, negsuc, Bool, true, false, ◌&&◌, List, ◌++◌, map, codes, Option, Some}
+use Rattle.std.specs.Prelude.{◌≡◌, ℕ, ℤ, pos, negsuc, ◌&&◌, List, ◌++◌, map, codes, Option, Some}
 use Rattle.std.specs.Prelude.{None, IsTrue, IsFalse, IsSome}
 use Rattle.std.specs.List.{filter, flat_map}
 use Rattle.std.specs.declared.cmp.Ordering.{Ordering}

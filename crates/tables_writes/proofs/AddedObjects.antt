@@ -1,5 +1,5 @@
 -- An object that is added to tables.
-use Rattle.std.proofs.Common.{◌≡◌, ℕ, false, List, length, Some, None, Bool, Option, option_map, is_some, cond, refl}
+use Rattle.std.proofs.Common.{◌≡◌, ℕ, List, length, Some, None, Bool, Option, option_map, is_some, cond, refl}
 use Rattle.std.proofs.Common.{sym, ap, ap₂, subst, ◌∙◌, arith, IsTrue, String, Global, string_bytes}
 use Rattle.std.specs.Prelude.{IsSome}
 use Rattle.std.specs.Cmp.{eq_by_cmp_equiv}

@@ -14,7 +14,7 @@ use Rattle.sqlite.specs.Held.{state}
 use Rattle.tables_sql.specs.Contents.{Contents, Triple, contents_of}
 use Rattle.tables_sql.proofs.Orders.{triple_total, triple_antisymmetric}
 use Rattle.paths.specs.Root.{bytes_cmp}
-use Rattle.model.specs.World.{World, Path, Pair, pair_cmp, Profile}
+use Rattle.model.specs.World.{Path, Pair, pair_cmp, Profile}
 use Rattle.model.specs.Profiles.{profile_or_new, profile_at, switched, without_generation}
 use Rattle.tables_world.specs.Rows.{profile_in, number_in}
 use Rattle.tables_world.specs.Worlds.{IsSoundContents, rows_of, world_in}

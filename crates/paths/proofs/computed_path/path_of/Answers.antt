@@ -1,4 +1,4 @@
-use Rattle.std.proofs.Common.{◌≡◌, IfOk, rules}
+use Rattle.std.proofs.Common.{IfOk, rules}
 use Rattle.std.proofs.lemmas.Result.{IfOk-weaker}
 use Rattle.paths.specs.Path.{IsPathOf}
 use Rattle.paths.proofs.PathOrder.{path_of-is}

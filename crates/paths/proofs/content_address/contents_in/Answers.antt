@@ -1,7 +1,5 @@
-use Rattle.std.proofs.Common.{◌≡◌, None, arith, ap, sym, ◌∙◌}
+use Rattle.std.proofs.Common.{arith, ap, sym, ◌∙◌}
 use Rattle.nar.specs.Tree.{IsBytes}
-use Rattle.nar.specs.Outcome.{outcome_of}
-use Rattle.nar.specs.View.{tree_of}
 use Rattle.nar.proofs.Decided.{outcome_archive, outcome_fault}
 use Rattle.paths.specs.ContentAddress.{plain_contents}
 use Rattle.paths.proofs.content_address.contents_in.Goals as goal

@@ -1,5 +1,4 @@
 use Rattle.std.proofs.Common.{sym, subst, refl}
-use Rattle.sqlite.specs.Held.{state}
 use Rattle.tables_schema.specs.declared.schema.Schema.{Schema}
 use Rattle.tables_schema.specs.declared.schema.Schema.TheVariants.{V1, V2, V3}
 use Rattle.tables_make.specs.Commits.{Migrates}

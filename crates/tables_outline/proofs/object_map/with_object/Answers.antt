@@ -1,4 +1,4 @@
-use Rattle.std.proofs.Common.{◌≡◌, ℕ, List, false, sym, subst, ap, ◌∙◌}
+use Rattle.std.proofs.Common.{◌≡◌, ℕ, List, false, sym, subst, ◌∙◌}
 use Rattle.std.specs.Prelude.{IfSome, Option}
 use Rattle.std.specs.FinMap as finite
 use Rattle.std.proofs.lemmas.Result.{IfOk-weaker}

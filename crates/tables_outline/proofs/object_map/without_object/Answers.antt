@@ -3,7 +3,7 @@ use Rattle.std.specs.Prelude.{option_map}
 use Rattle.std.specs.FinMap as finite
 use Rattle.paths.specs.Root.{bytes_cmp}
 use Rattle.live.specs.Graph.{Links}
-use Rattle.tables_outline.specs.Links.{AreLinksOf, IsRemoved, LinksValue}
+use Rattle.tables_outline.specs.Links.{AreLinksOf, IsRemoved}
 use Rattle.tables_outline.specs.Outline.{Outlined}
 use Rattle.tables_outline.specs.Turned.{links_of, objects_in}
 use Rattle.tables_outline.proofs.Orders.{bytes_total, bytes_antisymmetric}

@@ -1,4 +1,4 @@
-use Rattle.std.proofs.Common.{Err, List, Ok, Option, inl, inr, refl, ℕ, ◌≡◌, ◌⊎◌}
+use Rattle.std.proofs.Common.{List, Ok, Option, inl, inr, refl, ℕ, ◌≡◌, ◌⊎◌}
 use Rattle.policy.specs.Settings.{Settings}
 use Rattle.policy.specs.Toml.{config_of}
 use Rattle.clap.specs.Walk.{Text}

@@ -1,4 +1,4 @@
-use Rattle.std.proofs.Common.{◌≡◌, ℕ, List, Option, Some, Bor, sym, ap, subst}
+use Rattle.std.proofs.Common.{◌≡◌, ℕ, List, Option, Some, Bor, sym, subst}
 use Rattle.policy.specs.Settings.{Settings}
 use Rattle.tool_words.specs.Asked.{optional_text}
 use Rattle.report.specs.Outputs.{Console}

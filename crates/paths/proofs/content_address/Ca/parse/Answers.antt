@@ -1,9 +1,6 @@
-use Rattle.std.proofs.Common.{◌≡◌, ◌⊎◌, ◌++◌, List, ℕ, IfOk, IfErr, Some, None, ap, sym, refl, ◌∙◌, inl, inr}
+use Rattle.std.proofs.Common.{◌≡◌, ◌++◌, ap, sym, refl, ◌∙◌, inl, inr}
 use Rattle.std.specs.Prelude.{codes}
 use Rattle.std.proofs.lemmas.Result.{IfOk-weaker, IfErr-weaker}
-use Rattle.paths.specs.declared.content_address.Method.TheVariants.{Text, Source}
-use Rattle.paths.specs.Base32.{unbase32}
-use Rattle.paths.specs.ContentAddress.{with_method, address_of}
 use Rattle.paths.proofs.Addresses.{address_of-text, address_of-source, address_of-other}
 use Rattle.paths.proofs.content_address.Ca.parse.Goals as goal
 

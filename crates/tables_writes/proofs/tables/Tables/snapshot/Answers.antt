@@ -1,4 +1,4 @@
-use Rattle.std.proofs.Common.{map, sym, ap, ◌∙◌}
+use Rattle.std.proofs.Common.{sym, ap, ◌∙◌}
 use Rattle.std.specs.FinMap as finite
 use Rattle.tables_outline.specs.Rooted.{rooted}
 use Rattle.model.specs.World.{roots_of}

@@ -1,4 +1,4 @@
-use Rattle.std.proofs.Common.{◌≡◌, ap, subst, sym, ◌∙◌}
+use Rattle.std.proofs.Common.{ap, subst, sym, ◌∙◌}
 use Rattle.tables_outline.specs.Outline.{OutlineValue}
 use Rattle.tables_writes.specs.TablesValue.{Agrees, TablesValue}
 use Rattle.tables_writes.proofs.tables.Tables.turn_links.Goals as goal
