@@ -4,7 +4,7 @@ use Rattle.sqlite_trees.specs.declared.store.Store.{Ghosts}
 use Rattle.sqlite.specs.State.{HasCleanDisk}
 use Rattle.sqlite.specs.Held.{state}
 use Rattle.model.specs.World.{Path, World, has}
-use Rattle.tables_writes.specs.Frames.{FailsToAsk}
+use Rattle.tables_writes.specs.Writes.{FailsToAsk}
 use Rattle.tables_writes.specs.TablesValue.{TablesValue, HasWorld}
 use Rattle.store_promises.specs.Meets.{OnlyReads}
 use Rattle.nar.specs.Listing.{listing}

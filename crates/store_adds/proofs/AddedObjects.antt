@@ -27,7 +27,7 @@ use Rattle.model.specs.Effects.{with_object, effect}
 use Rattle.model.specs.Answers.{answer}
 use Rattle.tables_writes.specs.Reasons.{AreAmong}
 use Rattle.tables_writes.specs.RowsPut.{AddedRows}
-use Rattle.tables_writes.specs.Frames.{CommitsChange, FailsToChange}
+use Rattle.tables_writes.specs.Writes.{CommitsChange, FailsToChange}
 use Rattle.tables_writes.specs.TablesValue.{TablesValue, HasWorld, LeavesWorld}
 use Rattle.store_types.specs.declared.replies.Answer.{Answer}
 use Rattle.store_types.specs.declared.replies.Answer.TheVariants.{Path as Placed}

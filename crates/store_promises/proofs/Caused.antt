@@ -17,7 +17,7 @@ use Rattle.model.specs.World.{World}
 use Rattle.model.specs.Request.{Request}
 use Rattle.model.specs.Reply.{disk}
 use Rattle.tables_writes.specs.Reasons.{Rows, AreAmong, NoRow, RunsOutOfRowids}
-use Rattle.tables_writes.specs.Frames.{FailsToAsk, FailsToChange}
+use Rattle.tables_writes.specs.Writes.{FailsToAsk, FailsToChange}
 use Rattle.tables_writes.specs.TablesValue.{TablesValue}
 use Rattle.store_types.specs.Meets.{Meets}
 use Rattle.store_types.specs.declared.replies.Answer.{Answer}

@@ -13,7 +13,7 @@ use Rattle.model.specs.Request.{Request}
 use Rattle.model.specs.Tests.{refusal}
 use Rattle.model.specs.Effects.{effect}
 use Rattle.model.specs.Answers.{answer}
-use Rattle.tables_writes.specs.Frames.{CommitsChange}
+use Rattle.tables_writes.specs.Writes.{CommitsChange}
 use Rattle.tables_writes.specs.TablesValue.{TablesValue, HasWorld, LeavesWorld}
 use Rattle.store_types.specs.declared.replies.Answer.{Answer}
 use Rattle.store_types.specs.declared.replies.Stop.{Stop}

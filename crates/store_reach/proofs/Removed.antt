@@ -16,7 +16,7 @@ use Rattle.model.specs.Reply.{freed}
 use Rattle.model.specs.Request.{Request}
 use Rattle.model.proofs.MapMembers.{bytes_antisymmetric}
 use Rattle.model.proofs.Worlds.{get-keeping}
-use Rattle.tables_writes.specs.Frames.{CommitsChange}
+use Rattle.tables_writes.specs.Writes.{CommitsChange}
 use Rattle.tables_writes.specs.TablesValue.{TablesValue}
 use Rattle.store_types.specs.declared.replies.Answer.{Answer}
 use Rattle.store_types.specs.View.{answer_view}

@@ -18,7 +18,7 @@ use Rattle.model.specs.Profiles.{profile_at, previous, switched, rolled_back}
 use Rattle.model.specs.Effects.{effect}
 use Rattle.tables_outline.specs.Outline.{OutlineValue, outline_of}
 use Rattle.tables_writes.specs.Entries.{with_profile_by}
-use Rattle.tables_writes.specs.Frames.{ChangesTables}
+use Rattle.tables_writes.specs.Writes.{ChangesTables}
 use Rattle.tables_writes.specs.Reasons.{Rows, AreAmong}
 use Rattle.tables_writes.specs.TablesValue.{TablesValue, HasWorld}
 use Rattle.store_types.specs.View.{answer_view}

@@ -11,12 +11,12 @@ pub use Rattle.tables_recognize.specs.Modelled
 pub use Rattle.tables_recognize.specs.DiskStart
 pub use Rattle.tables_rows.specs.Reasons
 pub use Rattle.tables_writes.specs.Entries
-pub use Rattle.tables_writes.specs.Frames
 pub use Rattle.tables_writes.specs.Others
 pub use Rattle.tables_writes.specs.Rewritten
 pub use Rattle.tables_writes.specs.RowsPut
 pub use Rattle.tables_writes.specs.TablesValue
 pub use Rattle.tables_writes.specs.Temporary
+pub use Rattle.tables_writes.specs.Writes
 pub mod Adopted
 pub mod Causes
 pub mod InTheWay

@@ -8,7 +8,7 @@ ghost use Rattle.tables_world.specs.Worlds.{IsSoundBy, world_in};
 ghost use Rattle.tables_outline.specs.Outline.{outline_of};
 ghost use Rattle.tables.specs.Opening.{HasFurtherOf};
 ghost use Rattle.tables_rows.specs.Frames.{ReadsOnly};
-ghost use Rattle.tables_writes.specs.Frames.{MayReadWith};
+ghost use Rattle.tables_writes.specs.Writes.{MayReadWith};
 ghost use Rattle.tables.specs.Adopted.{HasTables, ReadsStore};
 
 use crate::unopened::Cause;

@@ -16,8 +16,8 @@ ghost use Rattle.tables_load_objects.specs.Loading.{MayReadBy, MayReadFrom, Load
 use crate::groups::group;
 use crate::joined::Joined;
 use crate::object_rows::{ObjectRows, rows_at};
-use crate::objects::sound_object;
 use crate::piece_sizes::is_cut;
+use crate::soundness::sound_object;
 use crate::source::Source;
 use crate::texts::new_path;
 use paths::{StoreDir, StorePath};

@@ -9,12 +9,12 @@ mod joined;
 mod load;
 mod members;
 mod object_rows;
-mod objects;
 mod outputs;
 mod piece_sizes;
 mod recorded;
 mod references;
 mod rows_ahead;
+mod soundness;
 mod source;
 mod texts;
 

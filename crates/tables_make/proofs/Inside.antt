@@ -10,7 +10,7 @@ use Rattle.tables_sql.specs.Calls.{Changes}
 use Rattle.tables_sql.proofs.TestFailures.{survives_both}
 use Rattle.tables_sql.specs.declared.failure.Failed.{Failed}
 use Rattle.tables_rows.specs.Frames.{Makes, StaysInside}
-use Rattle.tables_make.specs.Frames.{KeepsInside}
+use Rattle.tables_make.specs.Commits.{KeepsInside}
 use Rattle.tables_make.proofs.CallsInTurn.{both_keep_commit}
 
 -- a write commits nothing, whether it succeeds or fails

@@ -1,7 +1,9 @@
--- What each call that makes tables in a transaction of its own requires of the connection, and what it promises.
+-- What each call that makes tables, inside a transaction or in one of its own, requires of the connection, and what it
+-- promises.
 use Rattle.std.specs.Prelude.{◌≡◌, ℕ, false, List, Result, IsTrue, IfErr, OnOk, OnErr}
+use Rattle.std.specs.Borrow.{MutBor}
 use Rattle.sqlite_trees.specs.declared.store.Store.{Ghosts}
-use Rattle.sqlite.specs.State.{State, HasCleanDisk, Survives}
+use Rattle.sqlite.specs.State.{State, HasCleanDisk, KeepsCommit, Survives}
 use Rattle.sqlite.specs.Held.{Held, state}
 use Rattle.tables_schema.specs.Presence.{HasNone}
 use Rattle.tables_schema.specs.declared.schema.Schema.{Schema}
@@ -15,6 +17,22 @@ use Rattle.tables_make.specs.Migrating.{MigratedRows, FailsToPutBy}
 use Rattle.tables_rows.specs.Reasons.{Rows}
 
 module _ {S : Type 0} (g : Ghosts S) where
+  -- ---- a step that makes tables
+
+  -- A step stays in its transaction, and whether it succeeds or fails nothing is committed. A crash leaves what it
+  -- could leave before.
+  pub record KeepsInside (old new : MutBor (Held S)) : Type 0 where
+    pub same_reference : new.ghost_name ≡ old.ghost_name
+    pub kept : HasCleanDisk (state g new.now) → KeepsCommit (state g old.now) (state g new.now)
+    pub survives : Survives (state g old.now) (state g new.now) (λ _. ⊥)
+
+  -- A step inside a transaction: where it succeeds it leaves this, and where it fails this is why.
+  pub record StepsInside {T : Type 0} (old new : MutBor (Held S)) (result : Result T Failed)
+      (leaves : State → State → Type 0) (fails : State → State → Failed → Type 0) : Type 0 where
+    pub frame : KeepsInside old new
+    pub done : HasCleanDisk (state g new.now) → OnOk result (leaves (state g old.now) (state g new.now))
+    pub cause : HasCleanDisk (state g new.now) → IfErr result (fails (state g old.now) (state g new.now))
+
   -- ---- all eleven tables
 
   -- no transaction is under way, and unless a fault has shut the connection none of the store's tables exists

@@ -10,7 +10,6 @@ pub use Rattle.tables_sql.specs.Failures
 pub use Rattle.tables_rows.specs.Reasons
 pub mod Commits
 pub mod Cutting
-pub mod Frames
 pub mod Further
 pub mod NewTables
 pub mod Migrated

@@ -7,7 +7,7 @@ ghost use Rattle.tables_schema.specs.StoreTables.{form};
 ghost use Rattle.tables_sql.specs.declared.failure.Failed.{Failed};
 ghost use Rattle.tables_sql.specs.Failures.{IsWriteFailure, without_size};
 ghost use Rattle.tables_make.specs.NewTables.{making_text, have_distinct_names, IsMaking, Makes, FailsToMakeThese};
-ghost use Rattle.tables_make.specs.Frames.{StepsInside};
+ghost use Rattle.tables_make.specs.Commits.{StepsInside};
 
 use sqlite::{Alter, Transaction};
 use tables_schema::store_table::StoreTable;

@@ -6,7 +6,7 @@ ghost use Rattle.tables_schema.specs.Presence.{HasFirst, HasSecond};
 ghost use Rattle.tables_make.specs.NewTables.{FailsToMakeThese};
 ghost use Rattle.tables_make.specs.Further.{MakesFurther};
 ghost use Rattle.tables_rows.specs.Frames.{IsInsideWith};
-ghost use Rattle.tables_make.specs.Frames.{StepsInside};
+ghost use Rattle.tables_make.specs.Commits.{StepsInside};
 
 use crate::creation;
 use sqlite::{Alter, Transaction};

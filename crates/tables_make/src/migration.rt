@@ -9,8 +9,7 @@ ghost use Rattle.tables_make.specs.Cutting.{cut_objects, renumbered};
 ghost use Rattle.tables_make.specs.Migrated.{missing_tables, HasEarlier, Grows, IsGrown};
 ghost use Rattle.tables_make.specs.Migrating.{FailsToMigrate, FailsToPutBy, IsUncut, RewrittenRows, SettingRow};
 ghost use Rattle.tables_rows.specs.Frames.{MayCut, IsInsideWith, Writes, IsInside};
-ghost use Rattle.tables_make.specs.Frames.{StepsInside};
-ghost use Rattle.tables_make.specs.Commits.{CommitsMigration, MayMigrate, Migrates};
+ghost use Rattle.tables_make.specs.Commits.{StepsInside, CommitsMigration, MayMigrate, Migrates};
 
 use crate::archive_cuts::cut_all;
 use crate::further;

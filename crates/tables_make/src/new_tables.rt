@@ -9,8 +9,7 @@ ghost use Rattle.tables_schema.specs.Forms.{meta};
 ghost use Rattle.tables_sql.specs.Failures.{IsWriteFailure};
 ghost use Rattle.tables_make.specs.NewTables.{IsMaking, HasMeta, Puts, MakesMeta, MakesAll, IsMade, IsMadeIn, IsMadeOf};
 ghost use Rattle.tables_make.specs.NewTables.{LeavesMade, IsTooLong, FailsToMakeThese, FailsToMake, other_tables};
-ghost use Rattle.tables_make.specs.Frames.{StepsInside};
-ghost use Rattle.tables_make.specs.Commits.{CommitsTables, MayMake};
+ghost use Rattle.tables_make.specs.Commits.{StepsInside, CommitsTables, MayMake};
 
 use crate::creation;
 use sqlite::{Alter, Connection, Transaction, params};

@@ -9,7 +9,7 @@ use Rattle.tables_sql.specs.Failures.{FailsToTest}
 use Rattle.tables_sql.specs.declared.failure.Failed.{Failed}
 use Rattle.tables_sql.specs.declared.failure.Failed.TheVariants.{Memory, Size, Disk}
 use Rattle.tables_sql.proofs.Steps.{clean_before}
-use Rattle.tables_recognize.specs.Frames.{IsSettled, LeavesShown}
+use Rattle.tables_recognize.specs.Tests.{IsSettled, LeavesShown}
 
 pub shown_then : (a b c : State) → KeepsShown a b → KeepsShown b c → KeepsShown a c
 shown_then a b c h k = record {

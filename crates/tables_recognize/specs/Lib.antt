@@ -11,8 +11,8 @@ pub use Rattle.tables_sql.specs.Texts
 pub use Rattle.tables_sql.specs.Frozen
 pub use Rattle.tables_sql.specs.Calls
 pub use Rattle.tables_sql.specs.Failures
-pub mod Frames
 pub mod Opened
 pub mod Pages
 pub mod Tables
+pub mod Tests
 pub mod Settings

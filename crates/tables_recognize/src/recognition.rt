@@ -9,7 +9,7 @@ ghost use Rattle.tables_recognize.specs.Opened.{IsRecognised};
 ghost use Rattle.tables_sql.specs.Failures.{FailsToTest};
 ghost use Rattle.tables_schema.specs.declared.recognition.Recognised.TheVariants.{Nothing, Tables};
 ghost use Rattle.tables_schema.specs.declared.schema.Schema.TheVariants.{V1, V2, V3};
-ghost use Rattle.tables_recognize.specs.Frames.{IsSettled, MayTest, OnlyLooks, FindsTables};
+ghost use Rattle.tables_recognize.specs.Tests.{IsSettled, MayTest, OnlyLooks, FindsTables};
 
 use crate::row_tests;
 use sqlite::{Alter, Connection};

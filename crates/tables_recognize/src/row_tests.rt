@@ -5,7 +5,7 @@ ghost use Rattle.std.specs.List.{AllByRecursion};
 ghost use Rattle.tables_schema.specs.Intact.{IsIntact};
 ghost use Rattle.tables_schema.specs.StoreTables.{form};
 ghost use Rattle.tables_recognize.specs.Tables.{HasOwnRowids, HasReadableTexts};
-ghost use Rattle.tables_recognize.specs.Frames.{MayTest, TestsRows};
+ghost use Rattle.tables_recognize.specs.Tests.{MayTest, TestsRows};
 
 use crate::{queries, tested_rows};
 use sqlite::{Alter, Connection};

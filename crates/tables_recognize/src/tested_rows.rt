@@ -11,7 +11,7 @@ ghost use Rattle.tables_sql.specs.Failures.{IsQueryFailure};
 ghost use Rattle.tables_sql.specs.Queries.{IsSelect, HasBegunWith, IsAnswered};
 ghost use Rattle.tables_sql.specs.Texts.{IsReadableRow};
 ghost use Rattle.tables_recognize.specs.Opened.{ShowIds};
-ghost use Rattle.tables_recognize.specs.Frames.{IsSettled, LeavesShown};
+ghost use Rattle.tables_recognize.specs.Tests.{IsSettled, LeavesShown};
 
 use crate::rowids::{differ, read_id};
 use crate::texts::are_readable;

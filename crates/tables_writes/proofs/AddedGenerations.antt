@@ -19,7 +19,7 @@ use Rattle.tables_outline.specs.Outline.{OutlineValue, with_profile, profile_of,
 use Rattle.tables_outline.proofs.Orders.{nat_antisymmetric, pair_total, pair_antisymmetric}
 use Rattle.tables_outline.proofs.Puts.{tied_is, unput_put, has_put}
 use Rattle.tables_rows.specs.Reasons.{IsReason}
-use Rattle.tables_writes.specs.Frames.{StaysSound, CommitsRows, ChangesTables}
+use Rattle.tables_writes.specs.Writes.{StaysSound, CommitsRows, ChangesTables}
 use Rattle.tables_writes.specs.Rewritten.{put_generation}
 use Rattle.tables_writes.specs.RowsPut.{GenerationRows}
 use Rattle.tables_writes.specs.TablesValue.{TablesValue, Agrees}

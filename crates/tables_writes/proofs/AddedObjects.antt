@@ -23,7 +23,7 @@ use Rattle.tables_outline.proofs.Puts.{unput_put}
 use Rattle.tables_outline.proofs.Reported.{get-reported}
 use Rattle.tables_writes.specs.Rewritten.{HasNoObject, put_object}
 use Rattle.tables_writes.specs.Entries.{with_archived}
-use Rattle.tables_writes.specs.Frames.{StaysSound}
+use Rattle.tables_writes.specs.Writes.{StaysSound}
 use Rattle.tables_rows.specs.Reasons.{AreAmong}
 use Rattle.tables_rows.proofs.Reasons.{all_among}
 use Rattle.tables_writes.specs.RowsPut.{AddedRows, ObjectRows, RowsWithAddress}

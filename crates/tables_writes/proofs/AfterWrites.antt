@@ -14,7 +14,7 @@ use Rattle.model.specs.Sound.{IsSound}
 use Rattle.tables_world.specs.Worlds.{IsSoundContents, world_in}
 use Rattle.tables_outline.specs.Outline.{OutlineValue, outline_of}
 use Rattle.tables_rows.specs.Reasons.{Rows, IsReason}
-use Rattle.tables_writes.specs.Frames.{CommitsRows, CommitsChange, StaysSound}
+use Rattle.tables_writes.specs.Writes.{CommitsRows, CommitsChange, StaysSound}
 use Rattle.tables_writes.specs.TablesValue.{TablesValue, AreOutlined, Agrees, HasWorld, IsWritten, LeavesWorld}
 use Rattle.tables_writes.specs.Others.{KeepsOthers}
 

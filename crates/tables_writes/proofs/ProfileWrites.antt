@@ -24,7 +24,7 @@ use Rattle.tables_outline.specs.Outline.{OutlineValue, with_profile, profile_of}
 use Rattle.tables_outline.proofs.Orders.{pair_total, pair_antisymmetric}
 use Rattle.tables_outline.proofs.Puts.{tied_is, get-kept}
 use Rattle.tables_writes.specs.Entries.{with_profile_by}
-use Rattle.tables_writes.specs.Frames.{StaysSound}
+use Rattle.tables_writes.specs.Writes.{StaysSound}
 use Rattle.tables_writes.specs.TablesValue.{TablesValue, Agrees}
 use Rattle.tables_writes.proofs.AfterWrites.{Follows, IsWrite}
 use Rattle.tables_writes.proofs.ProfileRows.{profile_follows}

@@ -2,7 +2,7 @@
 use Rattle.std.proofs.Common.{◌≡◌, List}
 use Rattle.sqlite_trees.specs.declared.store.Store.{Ghosts}
 use Rattle.model.specs.World.{Path}
-use Rattle.tables_writes.specs.Frames.{StaysSound}
+use Rattle.tables_writes.specs.Writes.{StaysSound}
 use Rattle.tables_writes.specs.Rewritten.{without_objects}
 use Rattle.tables_writes.specs.TablesValue.{TablesValue, Agrees}
 use Rattle.tables_writes.proofs.AfterWrites.{IsWrite}

@@ -7,7 +7,7 @@ use Rattle.paths.specs.Root.{bytes_cmp, Set}
 use Rattle.model.specs.World.{World, Path, pair_cmp}
 use Rattle.tables_world.specs.Worlds.{IsSoundContents}
 use Rattle.tables_outline.specs.Outline.{OutlineValue}
-use Rattle.tables_writes.specs.Frames.{StaysSound}
+use Rattle.tables_writes.specs.Writes.{StaysSound}
 use Rattle.tables_writes.specs.TablesValue.{TablesValue, Agrees}
 use Rattle.tables_writes.proofs.AfterWrites.{Follows, IsWrite}
 

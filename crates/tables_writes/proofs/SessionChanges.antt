@@ -10,7 +10,7 @@ use Rattle.model.specs.World.{World, Temporary, temporary_cmp}
 use Rattle.tables_world.specs.Worlds.{IsSoundContents}
 use Rattle.tables_outline.specs.Outline.{OutlineValue}
 use Rattle.tables_outline.specs.Temporary.{unkept}
-use Rattle.tables_writes.specs.Frames.{StaysSound}
+use Rattle.tables_writes.specs.Writes.{StaysSound}
 use Rattle.tables_writes.specs.TablesValue.{TablesValue, Agrees}
 use Rattle.tables_outline.proofs.Orders.{temporary_total, temporary_antisymmetric}
 use Rattle.tables_outline.proofs.Puts.{unput_put, tied_is}

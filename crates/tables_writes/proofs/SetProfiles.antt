@@ -10,7 +10,7 @@ use Rattle.model.specs.Profiles.{set_to}
 use Rattle.model.specs.Sound.{IsSound}
 use Rattle.tables_outline.specs.Outline.{OutlineValue, profile_of}
 use Rattle.tables_writes.specs.Entries.{with_profile_by}
-use Rattle.tables_writes.specs.Frames.{CommitsChange}
+use Rattle.tables_writes.specs.Writes.{CommitsChange}
 use Rattle.tables_writes.specs.TablesValue.{TablesValue, HasWorld, LeavesWorld}
 
 on_ok_as : {A E P Q : Type 0} (r : Result A E) → (P → Q) → OnOk r P → OnOk r Q

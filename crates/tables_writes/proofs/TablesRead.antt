@@ -11,7 +11,7 @@ use Rattle.tables_sql.specs.declared.failure.Failed.{Failed}
 use Rattle.tables_sql.proofs.Transactions.{survives_none}
 use Rattle.tables_rows.specs.Frames.{LeftAsItWas}
 use Rattle.model.specs.World.{World}
-use Rattle.tables_writes.specs.Frames.{FailsToAsk, ReadsTables}
+use Rattle.tables_writes.specs.Writes.{FailsToAsk, ReadsTables}
 use Rattle.tables_writes.specs.TablesValue.{TablesValue, Agrees, HasWorld}
 use Rattle.tables_writes.proofs.AfterWrites.{reported_failed}
 

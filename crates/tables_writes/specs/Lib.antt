@@ -7,9 +7,9 @@ pub use Rattle.tables_outline.specs.Outline
 pub use Rattle.tables_outline.specs.Maps
 pub use Rattle.tables_rows.specs.Reasons
 pub mod Entries
-pub mod Frames
 pub mod Others
 pub mod Rewritten
 pub mod RowsPut
 pub mod TablesValue
 pub mod Temporary
+pub mod Writes

@@ -10,7 +10,7 @@ ghost use Rattle.tables_rows.specs.Frames.{FindsInReads};
 ghost use Rattle.tables_world.specs.Rows.{archive_in};
 ghost use Rattle.tables_world.specs.Worlds.{rows_of};
 ghost use Rattle.tables_writes.specs.Entries.{HoldsArchive};
-ghost use Rattle.tables_writes.specs.Frames.{MayReadWith, ReadsTables};
+ghost use Rattle.tables_writes.specs.Writes.{MayReadWith, ReadsTables};
 
 use crate::tables::Tables;
 use paths::StorePath;

@@ -6,7 +6,7 @@ ghost use Rattle.sqlite.specs.Held.{state};
 ghost use Rattle.tables_sql.specs.Contents.{Contents, contents_of};
 ghost use Rattle.tables_sql.specs.Calls.{IsWhole};
 ghost use Rattle.tables_rows.specs.Reasons.{Rows, HasReason};
-ghost use Rattle.tables_writes.specs.Frames.{MayCommit, CommitsRows};
+ghost use Rattle.tables_writes.specs.Writes.{MayCommit, CommitsRows};
 ghost use Rattle.tables_rows.specs.Frames.{IsInside, Makes, StaysInside};
 
 use sqlite::{Alter, Connection, Transaction};

@@ -7,7 +7,7 @@ ghost use Rattle.tables_outline.specs.View.{profile_view};
 ghost use Rattle.tables_outline.specs.Outline.{outlined};
 ghost use Rattle.paths.specs.RootView.{root_view};
 ghost use Rattle.tables_writes.specs.Entries.{object_view};
-ghost use Rattle.tables_writes.specs.Frames.{ReadsTables};
+ghost use Rattle.tables_writes.specs.Writes.{ReadsTables};
 ghost use Rattle.tables_writes.specs.TablesValue.{HasWorld};
 
 use crate::tables::Tables;

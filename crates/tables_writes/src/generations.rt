@@ -7,7 +7,7 @@ ghost use Rattle.std.specs.FinMap as finite;
 ghost use Rattle.model.specs.Profiles.{number_for, put_at, set_to, switched, without_generation};
 ghost use Rattle.tables_outline.specs.Outline.{profile_of};
 ghost use Rattle.tables_writes.specs.Entries.{with_numbers, with_profile_by};
-ghost use Rattle.tables_writes.specs.Frames.{StaysSound, ChangesTables};
+ghost use Rattle.tables_writes.specs.Writes.{StaysSound, ChangesTables};
 ghost use Rattle.tables_rows.specs.Reasons.{NoRow};
 ghost use Rattle.tables_writes.specs.RowsPut.{ProfileRow, GenerationRows, NumberedRows};
 

@@ -10,7 +10,6 @@ mod entries;
 mod generations;
 mod laws;
 mod named_roots;
-mod object_rows;
 mod objects;
 mod permanent;
 mod profiles;

@@ -1,7 +1,7 @@
 //! Setting and dropping permanent and user roots by their names.
 
 ghost use Rattle.tables_writes.specs.Entries.{with_root, without_root};
-ghost use Rattle.tables_writes.specs.Frames.{StaysSound, ChangesTables};
+ghost use Rattle.tables_writes.specs.Writes.{StaysSound, ChangesTables};
 ghost use Rattle.tables_rows.specs.Reasons.{NoRow};
 ghost use Rattle.tables_writes.specs.RowsPut.{RootRow};
 

@@ -7,7 +7,7 @@ ghost use Rattle.tables_writes.specs.Rewritten.{AreFree, put_references, put_out
 ghost use Rattle.tables_rows.specs.Reasons.{RowsOf};
 ghost use Rattle.tables_writes.specs.RowsPut.{ReferenceRow, OutputRow};
 ghost use Rattle.tables_rows.specs.Frames.{Writes};
-ghost use Rattle.tables_writes.specs.Frames.{IsOpenInside};
+ghost use Rattle.tables_writes.specs.Writes.{IsOpenInside};
 
 use crate::archive_pieces::put_pieces;
 use crate::change::Change;

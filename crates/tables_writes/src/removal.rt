@@ -1,26 +1,85 @@
-//! Deletion of objects, from the rows and from the outline.
+//! Deletion of objects, from the rows and from the outline. No statement runs for rows of references, outputs or pieces
+//! that an object doesn't have by the outline.
 
+ghost use Rattle.std.specs.Prelude.{◌<◌, ℕ, ℤ, List, IsTrue, not};
+ghost use Rattle.std.specs.FinMap as finite;
 ghost use Rattle.tables_schema.specs.Forms.{piece};
 ghost use Rattle.tables_sql.specs.Calls.{HasFurther};
 ghost use Rattle.tables_sql.specs.Contents.{contents_of};
+ghost use Rattle.tables_world.specs.Pieces.{piece_size};
 ghost use Rattle.tables_rows.specs.Reasons.{HasReason, NoRow};
 ghost use Rattle.tables_rows.specs.Frames.{IsInsideWith, MayCut, Writes};
-ghost use Rattle.tables_writes.specs.Frames.{CommitsRows, MayCommit, StaysSound, ChangesTables};
+ghost use Rattle.tables_writes.specs.Writes.{IsOpenInside, CommitsRows, MayCommit, StaysSound, ChangesTables};
 ghost use Rattle.tables_writes.specs.Rewritten.{Covers, without_object, without_objects};
-ghost use Rattle.std.specs.Prelude.{not};
-ghost use Rattle.live.specs.Graph.{holds};
+ghost use Rattle.live.specs.Graph.{holds, same};
 ghost use Rattle.model.specs.Effects.{keeping};
 
 use crate::change;
 use crate::change::Change;
-use crate::object_rows::{delete_outputs, delete_pieces, delete_references};
 use crate::tables::Tables;
 use paths::StorePath;
 use sqlite::{Alter, Connection, Transaction};
 use std::alloc::Global;
-use tables_outline::Outline;
-use tables_rows::{Delete, objects};
+use streams::PIECE_SIZE;
+use tables_outline::{Outline, Summary};
+use tables_rows::{Delete, objects, outputs, pieces, references};
 use tables_sql::failure::Failed;
+
+/// Deletes the rows of an object's references, if it has any.
+fn delete_references<S: Alter>(
+    tx: &mut Transaction<'_, S>,
+    base: &str,
+    object: &Summary,
+) -> Result<(), Failed>
+    requires { IsOpenInside S.Store tx.old.conn
+        (λ c. (r : List ℕ) → IsTrue (finite.contains_key c.refs (base.now, r))
+        → IsTrue (finite.contains_key object.now.references r)) }
+    ensures { Writes S.Store tx.old.conn tx.new.conn result
+        (λ c. record c { refs = finite.retain_keys c.refs (λ k. not (same k.0 base.now)) })
+        NoRow }
+{
+    if object.references().is_empty() {
+        return Ok(());
+    }
+    references::Of { base }.delete(tx)
+}
+
+/// Deletes the rows of an object's outputs, if it has any.
+fn delete_outputs<S: Alter>(
+    tx: &mut Transaction<'_, S>,
+    base: &str,
+    object: &Summary,
+) -> Result<(), Failed>
+    requires { IsOpenInside S.Store tx.old.conn
+        (λ c. (name : List ℕ) → IsTrue (finite.contains_key c.outs (base.now, name))
+        → IsTrue (finite.contains_key object.now.outputs name)) }
+    ensures { Writes S.Store tx.old.conn tx.new.conn result
+        (λ c. record c { outs = finite.retain_keys c.outs (λ k. not (same k.0 base.now)) })
+        NoRow }
+{
+    if object.outputs().is_empty() {
+        return Ok(());
+    }
+    outputs::Of { base }.delete(tx)
+}
+
+/// Deletes the rows of an archive's further pieces, if the object's row doesn't hold the whole archive.
+fn delete_pieces<S: Alter>(
+    tx: &mut Transaction<'_, S>,
+    base: &str,
+    object: &Summary,
+) -> Result<(), Failed>
+    requires { MayCut S.Store tx.old.conn
+        (λ c. (n : ℤ) → IsTrue (finite.contains_key c.pieces (base.now, n)) → piece_size < object.now.size) }
+    ensures { Writes S.Store tx.old.conn tx.new.conn result
+        (λ c. record c { pieces = finite.retain_keys c.pieces (λ k. not (same k.0 base.now)) })
+        NoRow }
+{
+    if object.size() <= PIECE_SIZE {
+        return Ok(());
+    }
+    pieces::Of { base }.delete(tx)
+}
 
 /// Deletes the rows of one object, if it exists: its own, and those of its references, outputs and pieces by the
 /// outline.

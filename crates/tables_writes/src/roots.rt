@@ -6,7 +6,7 @@ ghost use Rattle.model.specs.World.{pair_cmp};
 ghost use Rattle.model.specs.Effects.{with_permanent, without_permanent, with_user_root, without_user_root};
 ghost use Rattle.model.specs.Effects.{with_runtime};
 ghost use Rattle.tables_outline.specs.Maps.{labelled_bytes, seen_set};
-ghost use Rattle.tables_writes.specs.Frames.{StaysSound, ChangesTables};
+ghost use Rattle.tables_writes.specs.Writes.{StaysSound, ChangesTables};
 ghost use Rattle.tables_rows.specs.Reasons.{NoRow, RowsOf};
 ghost use Rattle.tables_writes.specs.RowsPut.{PermanentRow, UserRootRow, RuntimeRow};
 

@@ -7,7 +7,7 @@ ghost use Rattle.tables_writes.specs.Rewritten.{put_pairs};
 ghost use Rattle.tables_rows.specs.Reasons.{RowsOf};
 ghost use Rattle.tables_writes.specs.RowsPut.{RuntimeRow};
 ghost use Rattle.tables_rows.specs.Frames.{Writes};
-ghost use Rattle.tables_writes.specs.Frames.{IsOpenInside};
+ghost use Rattle.tables_writes.specs.Writes.{IsOpenInside};
 
 use crate::change::Change;
 use paths::StorePath;

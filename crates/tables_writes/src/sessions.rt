@@ -9,7 +9,7 @@ ghost use Rattle.std.specs.FinMap as finite;
 ghost use Rattle.model.specs.Effects.{with_temporary};
 ghost use Rattle.tables_outline.specs.Maps.{temporary_bytes};
 ghost use Rattle.tables_outline.specs.Temporary.{entries_of_session, entries_without_session};
-ghost use Rattle.tables_writes.specs.Frames.{StaysSound, ChangesTables, CommitsChange, FailsToChange};
+ghost use Rattle.tables_writes.specs.Writes.{StaysSound, ChangesTables, CommitsChange, FailsToChange};
 ghost use Rattle.tables_rows.specs.Reasons.{NoRow};
 ghost use Rattle.tables_writes.specs.RowsPut.{TemporaryRow};
 ghost use Rattle.tables_writes.specs.Temporary.{keeps};

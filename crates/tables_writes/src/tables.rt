@@ -4,7 +4,7 @@ ghost use Rattle.std.specs.Prelude.{◌≡◌, false, None, length};
 ghost use Rattle.std.specs.FinMap as finite;
 ghost use Rattle.sha2.specs.Sha256.{sha256};
 ghost use Rattle.tables_writes.specs.Entries.{with_archived};
-ghost use Rattle.tables_writes.specs.Frames.{StaysSound, CommitsChange, FailsToChange};
+ghost use Rattle.tables_writes.specs.Writes.{StaysSound, CommitsChange, FailsToChange};
 ghost use Rattle.tables_writes.specs.RowsPut.{AddedRows};
 
 use crate::change;

@@ -6,7 +6,7 @@ use Rattle.tables_sql.proofs.Transactions.{survives_none}
 use Rattle.tables_make.proofs.InTurn.{none_made, next_making, next_made, next_fails, all_in_turn}
 use Rattle.tables_make.proofs.CallsInTurn.{both_keep_commit}
 use Rattle.tables_make.proofs.Inside.{both_keep}
-use Rattle.tables_make.specs.Frames.{KeepsInside}
+use Rattle.tables_make.specs.Commits.{KeepsInside}
 use Rattle.tables_rows.proofs.Failed.{none_done}
 use Rattle.tables_make.proofs.creation.all.Goals as goal
 

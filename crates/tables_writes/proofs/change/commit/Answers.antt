@@ -8,7 +8,7 @@ use Rattle.tables_sql.proofs.Scans.{on_ok}
 use Rattle.tables_sql.proofs.Steps.{under_after}
 use Rattle.tables_sql.proofs.Transactions.{survives_all}
 use Rattle.tables_rows.specs.Reasons.{HasReason}
-use Rattle.tables_writes.specs.Frames.{CommitsRows}
+use Rattle.tables_writes.specs.Writes.{CommitsRows}
 use Rattle.tables_writes.specs.TablesValue.{IsWritten}
 use Rattle.tables_writes.proofs.Begun.{always_done, begun_has, undone}
 use Rattle.tables_sql.proofs.TestFailures.{passed_on}

@@ -1,7 +1,7 @@
 use Rattle.std.proofs.Common.{sym, subst}
 use Rattle.tables_writes.specs.declared.named_roots.RootName.{RootName}
 use Rattle.tables_writes.specs.Entries.{without_root}
-use Rattle.tables_writes.specs.Frames.{CommitsChange, StaysSound}
+use Rattle.tables_writes.specs.Writes.{CommitsChange, StaysSound}
 use Rattle.tables_writes.proofs.tables.Tables.drop_root.Goals as goal
 
 pub drop_permanent-requires : goal.drop_permanent-requires

@@ -3,7 +3,7 @@ use Rattle.std.specs.Prelude.{IfNone}
 use Rattle.std.specs.FinMap as finite
 use Rattle.model.specs.World.{Pair}
 use Rattle.tables_writes.specs.Entries.{with_numbers}
-use Rattle.tables_writes.specs.Frames.{CommitsChange, StaysSound, FailsToChange}
+use Rattle.tables_writes.specs.Writes.{CommitsChange, StaysSound, FailsToChange}
 use Rattle.tables_writes.specs.RowsPut.{NumberedRows}
 use Rattle.tables_writes.proofs.tables.Tables.put_profile.Goals as goal
 

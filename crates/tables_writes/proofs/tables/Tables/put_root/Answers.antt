@@ -1,7 +1,7 @@
 use Rattle.std.proofs.Common.{sym, subst}
 use Rattle.tables_writes.specs.declared.named_roots.RootName.{RootName}
 use Rattle.tables_writes.specs.Entries.{with_root}
-use Rattle.tables_writes.specs.Frames.{CommitsChange, StaysSound, FailsToChange}
+use Rattle.tables_writes.specs.Writes.{CommitsChange, StaysSound, FailsToChange}
 use Rattle.tables_writes.specs.RowsPut.{RootRow}
 use Rattle.tables_writes.proofs.tables.Tables.put_root.Goals as goal
 

@@ -1,4 +1,4 @@
-//! An object, tested by its rows.
+//! Whether an object is sound, by its rows.
 
 ghost use Rattle.std.specs.Prelude.{◌≡◌, IfOk, IsTrue, MatchOption, length, map, string_bytes};
 ghost use Rattle.std.specs.List.{zip};

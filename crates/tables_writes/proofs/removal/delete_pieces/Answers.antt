@@ -1,16 +1,18 @@
+use Rattle.std.proofs.Common.{◌<◌, arith, refl}
 use Rattle.sqlite.specs.Held.{state}
 use Rattle.tables_sql.specs.Contents.{contents_of}
-use Rattle.tables_writes.proofs.Covered.{keyless, no_references}
+use Rattle.tables_world.specs.Pieces.{piece_size}
+use Rattle.tables_writes.proofs.Covered.{no_pieces}
+use Rattle.tables_writes.proofs.Cuts.{size_is}
 use Rattle.tables_writes.proofs.Transactions.{changes_nothing}
 use Rattle.tables_rows.proofs.Reasons.{as_reason, removal_reason}
-use Rattle.std.proofs.Common.{refl}
 use Rattle.tables_sql.proofs.Rowids.{numbers_on_none}
 use Rattle.tables_sql.proofs.Transactions.{survives_none}
-use Rattle.tables_writes.proofs.object_rows.delete_references.Goals as goal
+use Rattle.tables_writes.proofs.removal.delete_pieces.Goals as goal
 
--- the object has none, and so there is no row
-pub returns-then-is_empty : goal.returns-then-is_empty
-returns-then-is_empty g c = record {
+-- the row holds the whole archive, and so there is no piece
+pub returns-then-size-le-PIECE_SIZE : goal.returns-then-size-le-PIECE_SIZE
+returns-then-size-le-PIECE_SIZE g c = record {
   frame =
       record {
         same_reference = refl;
@@ -20,9 +22,9 @@ returns-then-is_empty g c = record {
   done = λ clean.
       let s = state g.S.Store c.args.tx.now.conn.now in
       changes_nothing s _ (c.requires.under_way clean) (c.requires.is_open clean)
-      (no_references (contents_of s.now) c.args.base.now
-      (λ r present. keyless c.args.object.now.references (λ e. e.0) c.references.result.now c.references.ensures
-      c.if-is_empty.ensures r (c.requires.fits clean r present)));
+      (no_pieces (contents_of s.now) c.args.base.now
+      (λ n present. let longer : piece_size < c.args.object.now.size = c.requires.fits clean n present in
+      omega (arith, longer, size_is, c.size.ensures, c.if-size-le-PIECE_SIZE.true)));
   numbers = λ clean. numbers_on_none (state g.S.Store c.args.tx.now.conn.now).now;
   cause = λ clean. tt;
 }

@@ -1,12 +1,12 @@
 use Rattle.sqlite.specs.Held.{state}
 use Rattle.tables_sql.specs.Contents.{contents_of}
-use Rattle.tables_writes.proofs.Covered.{keyless, no_outputs}
+use Rattle.tables_writes.proofs.Covered.{keyless, no_references}
 use Rattle.tables_writes.proofs.Transactions.{changes_nothing}
 use Rattle.tables_rows.proofs.Reasons.{as_reason, removal_reason}
 use Rattle.std.proofs.Common.{refl}
 use Rattle.tables_sql.proofs.Rowids.{numbers_on_none}
 use Rattle.tables_sql.proofs.Transactions.{survives_none}
-use Rattle.tables_writes.proofs.object_rows.delete_outputs.Goals as goal
+use Rattle.tables_writes.proofs.removal.delete_references.Goals as goal
 
 -- the object has none, and so there is no row
 pub returns-then-is_empty : goal.returns-then-is_empty
@@ -20,9 +20,9 @@ returns-then-is_empty g c = record {
   done = λ clean.
       let s = state g.S.Store c.args.tx.now.conn.now in
       changes_nothing s _ (c.requires.under_way clean) (c.requires.is_open clean)
-      (no_outputs (contents_of s.now) c.args.base.now
-      (λ name present. keyless c.args.object.now.outputs (λ e. e.1) c.outputs.result.now c.outputs.ensures
-      c.if-is_empty.ensures name (c.requires.fits clean name present)));
+      (no_references (contents_of s.now) c.args.base.now
+      (λ r present. keyless c.args.object.now.references (λ e. e.0) c.references.result.now c.references.ensures
+      c.if-is_empty.ensures r (c.requires.fits clean r present)));
   numbers = λ clean. numbers_on_none (state g.S.Store c.args.tx.now.conn.now).now;
   cause = λ clean. tt;
 }

@@ -1,6 +1,6 @@
 use Rattle.std.proofs.Common.{sym, ◌∙◌}
 use Rattle.std.proofs.lemmas.Bool.{false≢true}
-use Rattle.tables_load_objects.proofs.objects.sound_archive.Goals as goal
+use Rattle.tables_load_objects.proofs.soundness.sound_archive.Goals as goal
 
 pub returns-then-not-is_archive : goal.returns-then-not-is_archive
 returns-then-not-is_archive c =

@@ -1,6 +1,6 @@
 use Rattle.tables_load_objects.specs.Tested.{named_of}
 use Rattle.tables_load_objects.proofs.OfArchive.{reported_of}
-use Rattle.tables_load_objects.proofs.objects.sound_outputs.Goals as goal
+use Rattle.tables_load_objects.proofs.soundness.sound_outputs.Goals as goal
 
 pub returns : goal.returns
 returns c =

@@ -1,6 +1,6 @@
 use Rattle.tables_load_objects.specs.Tested.{targets_of}
 use Rattle.tables_load_objects.proofs.Paths.{read_rise}
-use Rattle.tables_load_objects.proofs.objects.sound_object.Goals as goal
+use Rattle.tables_load_objects.proofs.soundness.sound_object.Goals as goal
 
 pub sound_archive-requires : goal.sound_archive-requires
 sound_archive-requires c =
