@@ -1,12 +1,10 @@
--- Laws of what settings keep, and of collections up to a limit.
+-- Laws of what settings keep.
 use Rattle.std.specs.Prelude.{◌≡◌, ◌↔◌, ℕ, List, Some, IsTrue}
 use Rattle.std.specs.FinMap as finite
 use Rattle.live.specs.Graph.{IsEdge}
 use Rattle.model.specs.World.{Path, Object, World, has}
 use Rattle.policy.specs.Settings.{Settings}
 use Rattle.model.specs.Liveness.{graph_of, keep_of, lives}
-
--- ---- which setting keeps what
 
 -- An object keeps a path that is valid: each of its references, whatever the settings are; each of its outputs, if
 -- outputs are to be kept; and its deriver, if derivations are to be kept.
@@ -25,5 +23,3 @@ EdgesAsSet = (s : Settings) (w : World) (q p : Path) → IsEdge (keep_of s) (gra
 -- what a live path keeps is live
 abbrev pub LivingKeep : Type 0
 LivingKeep = (s : Settings) (w : World) (q p : Path) → IsTrue (lives s w q) → KeepsPath s w q p → IsTrue (lives s w p)
-
--- ---- a limit

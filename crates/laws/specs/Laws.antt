@@ -1,4 +1,4 @@
--- Laws of steps and runs.
+-- Laws of steps and runs, of denials for what lives, and of usage.
 use Rattle.std.specs.Prelude.{◌≡◌, ◌⊎◌, ◌+◌, ◌++◌, false, List, ◌∷◌, Option, Some, None, IsTrue}
 use Rattle.paths.specs.Root.{Root}
 use Rattle.live.specs.Live.{IsFirstRoot}
@@ -56,7 +56,7 @@ RunsEndAlike = (s : Settings) (w new1 new2 : World) (calls : List (Caller × Req
 
 -- ---- what lives
 
--- A denial by `Live` is for the first path that is live of the named, in the order given, and shows its first root.
+-- A denial by `Live` is for the first of the named paths that is live, in the order given, and shows its first root.
 pub record NamesTheLiving (s : Settings) (w : World) (c : Caller) (q : Request) : Type 0 where
   pub before : List Path
   pub path : Path
@@ -76,7 +76,3 @@ DenialsNameTheLiving =
 pub record UsageAddsUp (live dead total : Usage) : Type 0 where
   pub paths : live.paths + dead.paths ≡ total.paths
   pub bytes : live.bytes + dead.bytes ≡ total.bytes
-
--- ---- collection and deletion
-
--- ---- pinning

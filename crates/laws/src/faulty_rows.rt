@@ -1,4 +1,4 @@
-//! Laws of what isn't sound: rows with a fault, table by table. Each is the contract of a function that does nothing.
+//! Laws of rows with a fault, table by table: they aren't sound.
 ghost use Rattle.tables_sql.specs.Contents.{Contents};
 ghost use Rattle.model.specs.World.{Path};
 ghost use Rattle.laws.specs.FaultyPieces.{ExcludesFaultyPieces, FaultyCutsAreUnsound};
@@ -50,7 +50,7 @@ pub fn faulty_pieces_are_unsound()
 {}
 
 /// Rows aren't sound if a permanent or user root has an owner or name that isn't plain, a runtime label isn't 1 to 256
-/// bytes that print, or a target is no object.
+/// bytes of 33 to 126, or a target is no object.
 pub fn faulty_roots_are_unsound()
     ensures permanent { FaultyPermanentAreUnsound }
     ensures user_roots { FaultyUserRootsAreUnsound }

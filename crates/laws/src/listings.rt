@@ -13,8 +13,8 @@ pub fn listings_are_of_the_object()
     ensures { ListingsAreTheObjects }
 {}
 
-/// Listings have exactly the paths that they name, in order, the roots of a path are exactly those that reach it, and
-/// the report lists live paths before dead ones.
+/// The listings of valid, live and dead paths have exactly these, in order; the roots of a path are exactly those that
+/// reach it; and the report has the numbers of live paths, of dead ones and of both, with the bytes of their archives.
 pub fn listings_show_what_is_valid()
     ensures paths { ListingsAreExact }
     ensures roots { RootListingsAreExact }
@@ -34,7 +34,7 @@ pub fn usage_adds_up()
         → UsageAddsUp (usage_of w (live_paths s w)) (usage_of w (dead_paths s w)) (usage_of w (all_paths w)) }
 {}
 
-/// A request that only asks changes nothing: for a record, an archive, a listing or the report.
+/// A request that only reads changes nothing: for a record, an archive, a listing or the report.
 pub fn reads_change_nothing()
     ensures { ReadingChangesNothing }
 {}

@@ -5,8 +5,8 @@ ghost use Rattle.laws.specs.Faults.{NamedAreValid, NamesComeFirst, PathsComeBefo
 ghost use Rattle.laws.specs.Faults.{SessionFaultsAreReported};
 ghost use Rattle.laws.specs.Reasons.{DenialsAreForTheFirst, FaultsAreNotDone, RefusalsHaveReasons, MentionedAreValid};
 
-/// A denial for a live path is for the first path that is live of the named, in the order given, and shows its
-/// first root, as the caller sees it. A denial by another rule shows no root.
+/// A denial for a live path is for the first of the named paths that is live, in the order given, and shows its first
+/// root, as the caller sees it. A denial by another rule shows no root.
 pub fn denials_name_the_living()
     ensures live { DenialsNameTheLiving }
     ensures others { OthersShowNoRoot }
@@ -23,9 +23,9 @@ pub fn only_done_changes()
     ensures { LeavesUnlessDone }
 {}
 
-/// A refusal names the first fault: of a session, 1 to 4,194,304, before its path; a name before what it names; a
-/// profile before its generation, and a path that isn't valid before a profile that has no number left. A deletion that
-/// is done named valid paths alone.
+/// A refusal names the first fault: of a session its owner, then its number, which is 1 to 4,194,304, then its path; a
+/// name before what it names; a profile before its generation, and a path that isn't valid before a profile that has no
+/// number left. A deletion that is done named valid paths alone.
 pub fn first_faults_are_reported()
     ensures sessions { SessionFaultsAreReported }
     ensures names { NamesComeFirst }

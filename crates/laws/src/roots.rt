@@ -23,8 +23,8 @@ pub fn roots_change_exactly()
     ensures runtime { ReplacesAsSpecified }
 {}
 
-/// A root that was set is listed to each caller who asks next, with the labels of runtime roots and of sessions hidden
-/// from those who aren't trusted.
+/// A root that was set is listed to each caller who asks next, with the labels of runtime and temporary roots
+/// hidden from those who aren't trusted.
 pub fn roots_that_were_set_are_listed()
     ensures { RootsSetAreListed }
 {}
@@ -41,7 +41,7 @@ pub fn listings_gain_what_was_set()
     ensures { SetsAreListed }
 {}
 
-/// Each root has its label, and roots come by their kinds: those of sessions last.
+/// Each root has its label, and roots come by their kinds: temporary ones last.
 pub fn roots_are_labelled_in_order()
     ensures labels { AreLabelled }
     ensures kinds { KindsInOrder }

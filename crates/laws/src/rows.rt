@@ -1,4 +1,4 @@
-//! Laws of the definitions: each is the contract of a function that does nothing.
+//! Laws of rows: what they describe, and when they are sound.
 ghost use Rattle.std.specs.Prelude.{◌≡◌, List, ℕ, IsTrue};
 ghost use Rattle.paths.specs.Names.{is_store_dir};
 ghost use Rattle.model.specs.World.{no_world};

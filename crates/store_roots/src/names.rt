@@ -1,4 +1,4 @@
-//! Tests of the names of users and of what they own, and of labels.
+//! Tests of owners, of names of roots and profiles, and of labels.
 ghost use Rattle.std.specs.Prelude.{◌≡◌, ◌&&◌, string_bytes};
 ghost use Rattle.paths.specs.Names.{is_plain_name};
 ghost use Rattle.model.specs.Tests.{unless};
@@ -10,7 +10,7 @@ use paths::labels::is_runtime_label;
 use paths::{StorePath, is_plain_name};
 use store_types::Refusal;
 
-/// Tests that the name of a root, or of the owner of a session, is a plain name.
+/// Tests that the name of a permanent root, or the owner of a session, is a plain name.
 pub(crate) fn is_named(name: &str) -> Result<(), Refusal>
     ensures { Tested result (unless (is_plain_name name.now) Refusal.BadRootName) }
 {
@@ -20,14 +20,14 @@ pub(crate) fn is_named(name: &str) -> Result<(), Refusal>
     Ok(())
 }
 
-/// Whether the name of a user and that of what it owns are both plain.
+/// Whether an owner and the name of what they own are both plain.
 fn are_plain(owner: &str, name: &str) -> bool
     ensures { result ≡ (is_plain_name owner.now && is_plain_name name.now) }
 {
     is_plain_name(owner) && is_plain_name(name)
 }
 
-/// Tests that the name of a user and that of what it owns are plain names.
+/// Tests that an owner and the name of what they own are plain names.
 pub(crate) fn are_named(owned: &(String, String)) -> Result<(), Refusal>
     ensures { Tested result (unless (is_plain_name (string_bytes owned.now.0)
         && is_plain_name (string_bytes owned.now.1)) Refusal.BadRootName) }

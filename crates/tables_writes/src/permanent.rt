@@ -44,7 +44,7 @@ impl<'a> Change for PutPermanent<'a> {
     }
 }
 
-/// The change that deletes a permanent root, if it exists.
+/// The change that drops a permanent root, if it exists.
 #[derive(Drop)]
 pub(crate) struct DropPermanent<'a> {
     pub(crate) name: &'a str,

@@ -1,4 +1,4 @@
-//! The tables: a connection, and the outline of the rows.
+//! The tables: a connection, a store directory, and the outline of the rows.
 
 ghost use Rattle.std.specs.Prelude.{◌≡◌, false, None, length};
 ghost use Rattle.std.specs.FinMap as finite;

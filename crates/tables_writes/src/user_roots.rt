@@ -51,7 +51,7 @@ impl<'a> Change for PutUserRoot<'a> {
     }
 }
 
-/// The change that deletes a user root, if it exists.
+/// The change that drops a user root, if it exists.
 #[derive(Drop)]
 pub(crate) struct DropUserRoot<'a> {
     pub(crate) owner: &'a str,
