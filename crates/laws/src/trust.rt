@@ -23,8 +23,8 @@ pub fn nobody_plants_over_runs()
     ensures { NobodyPlantsInRuns }
 {}
 
-/// Each caller but a stranger may add what has an address, read all, collect, and delete what doesn't live; and nobody may
-/// ask that liveness is ignored.
+/// Each caller but a stranger may add what has an address, read all, collect, and delete what doesn't live; and nobody
+/// may ask that liveness is ignored.
 pub fn all_but_strangers_may_ask()
     ensures may { AllMayAsk }
     ensures never { NobodyIgnoresLiveness }
