@@ -18,8 +18,8 @@ use Rattle.laws.specs.Faults.{IsRefusedWith}
 abbrev pub TextsAreMeasured : Type 0
 TextsAreMeasured = (contents : List ℕ) → text_archive_size contents ≡ length (text_archive contents)
 
--- where an archive is read and references are few enough, another digest than the given one is reported before any fault
--- of addresses, references and derivations
+-- where an archive is read and references are few enough, another digest than the given one is reported before any
+-- fault of addresses, references and derivations
 abbrev pub DigestsComeFirst : Type 0
 DigestsComeFirst =
     (s : Settings) (w : World) (c : Caller) (i : Imported) (t : Tree) (reply : Reply) (new : World)

@@ -21,8 +21,8 @@ abbrev pub NobodyIgnoresLiveness : Type 0
 NobodyIgnoresLiveness =
     (s : Settings) (w : World) (c : Caller) → IsFalse (is_stranger (class_of s c)) → MayNotIgnoreLiveness s w c
 
--- what each caller but a stranger may ask: to add a text, a source, or an object that has an address; each
--- request that only reads; to collect; and to delete paths of which none lives
+-- what each caller but a stranger may ask: to add a text, a source, or an object that has an address; each request
+-- that only reads; to collect; and to delete paths of which none lives
 pub record MayAsk (s : Settings) (w : World) (c : Caller) : Type 0 where
   pub text : (name : List ℕ) (refs : List Path) (contents : List ℕ) → verdict s w c (add_text name refs contents) ≡ None
   pub source : (name : List ℕ) (refs : List Path) (b : List ℕ) → verdict s w c (add_source name refs b) ≡ None

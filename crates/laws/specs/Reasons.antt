@@ -1,5 +1,5 @@
--- Laws of reasons: a request is refused for a fault that it has, and a deletion denied for the first of the named
--- paths that is live.
+-- Laws of reasons: a request is refused for a fault that it has, and a deletion denied for the first of the named paths
+-- that is live.
 use Rattle.std.specs.Prelude.{◌≡◌, ℕ, ◌<◌, ◌≤◌, ◌++◌, Bool, List, ◌∷◌, length, Option, Some, Ok, Err, IsTrue, IsFalse}
 use Rattle.std.specs.Prelude.{Contains}
 use Rattle.std.specs.FinMap as finite

@@ -19,8 +19,8 @@ pub record HidesLabel (r : Root) (p : Pair) : Type 0 where
   pub hidden : (r.kind ≡ runtime) ⊎ (r.kind ≡ temporary) → p.0 ≡ codes "{censored}"
   pub label : (r.kind ≡ runtime → ⊥) → (r.kind ≡ temporary → ⊥) → p.0 ≡ r.label
 
--- one root: a trusted caller sees its label and its target, and any other the same but for the
--- label of a runtime or a temporary root
+-- one root: a trusted caller sees its label and its target, and any other the same but for the label of a
+-- runtime or temporary root
 pub record SeesRoot (class : Class) (r : Root) : Type 0 where
   pub trusted : IsTrue (is_trusted class) → seen_root class r ≡ (r.label, r.target)
   pub others : IsFalse (is_trusted class) → HidesLabel r (seen_root class r)

@@ -18,9 +18,9 @@ pub fn adds_are_exact()
     ensures import { (s : Settings) (i : Imported) → AddsExactly s (import_object i) (with_import i) }
 {}
 
-/// A text is refused by the size of its archive. An import of few enough references whose archive is read is refused for
-/// another digest before any fault of addresses, references and derivations; and for a missing reference only where one
-/// isn't valid and isn't the object's own path.
+/// A text is refused by the size of its archive. An import of few enough references whose archive is read is refused
+/// for another digest before any fault of addresses, references and derivations; and for a missing reference only where
+/// one isn't valid and isn't the object's own path.
 pub fn adds_are_refused_for_their_faults()
     ensures size { TextsAreMeasured }
     ensures digest { DigestsComeFirst }

@@ -23,8 +23,8 @@ pub fn roots_change_exactly()
     ensures runtime { ReplacesAsSpecified }
 {}
 
-/// A root that was set is listed to each caller who asks next, with the labels of runtime and temporary roots
-/// hidden from those who aren't trusted.
+/// A root that was set is listed to each caller who asks next, with the labels of runtime and temporary roots hidden
+/// from those who aren't trusted.
 pub fn roots_that_were_set_are_listed()
     ensures { RootsSetAreListed }
 {}

@@ -14,7 +14,7 @@ use Rattle.model.specs.Answers.{answer}
 abbrev pub without : World → List Path → World
 without w removed = keeping w (λ p. not (holds removed p))
 
--- No test of a request fails. The request deletes these paths, its answer is the paths and the sum of their bytes, and
+-- No test of a request fails. The request removes these paths, its answer is the paths and the sum of their bytes, and
 -- nothing else changes.
 pub record Removes (s : Settings) (w : World) (c : Caller) (q : Request) (removed : List Path) (bytes : ℕ)
     : Type 0 where

@@ -53,7 +53,7 @@ fn limited_paths(
 }
 
 /// The paths that a collection removes, in order: all dead paths; with a limit, one group of them after another, until
-/// the archives of the deleted paths have that many bytes.
+/// the archives of the removed paths have that many bytes.
 pub fn collected_paths(
     alloc: Global,
     config: &Config,
@@ -87,7 +87,7 @@ pub fn find_collected(
     Ok(Found { paths, bytes })
 }
 
-/// Deletes the dead objects: all, or with a limit as many groups as it takes.
+/// Removes the dead objects: all, or with a limit as many groups as it takes.
 pub fn collect<S: Alter>(
     alloc: Global,
     config: &Config,

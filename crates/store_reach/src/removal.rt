@@ -1,4 +1,4 @@
-//! Deletion of objects.
+//! Removal of objects, by a collection or a deletion.
 
 ghost use Rattle.std.specs.Prelude.{◌≡◌, ◌<◌, IsTrue, true, false, [], length};
 ghost use Rattle.policy.specs.Settings.{Settings};
@@ -35,11 +35,11 @@ fn is_nothing(paths: &[StorePath]) -> bool
     paths.is_empty()
 }
 
-/// Deletes the objects of some paths, which may be none. The caller ensures that the world is sound without the
+/// Removes the objects of some paths, which may be none. The caller ensures that the world is sound without the
 /// objects.
 pub(crate) fn remove<S: Alter>(tables: &mut Tables<S>, found: Found) -> Result<Answer, Stop>
     requires { (w : World) → HasWorld S.Store tables.old w → IsSound tables.old.dir (without w found.paths.items) }
-    // A request is met that deletes these objects and changes nothing else.
+    // A request is met that removes these objects and changes nothing else.
     ensures { (s : Settings) (c : Caller) (q : asked.Request) → IsTrue (touches_disk q)
         → ((w : World) → outline_of w ≡ tables.old.outline → Removes s w c q found.paths.items found.bytes)
         → IsMet S.Store s c q result tables.old tables.new }

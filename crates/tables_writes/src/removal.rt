@@ -1,4 +1,4 @@
-//! Deletion of objects, from the rows and from the outline. No statement runs for rows of references, outputs or pieces
+//! Removal of objects, from the rows and from the outline. No statement runs for rows of references, outputs or pieces
 //! that an object doesn't have by the outline.
 
 ghost use Rattle.std.specs.Prelude.{◌<◌, ℕ, ℤ, List, IsTrue, not};
@@ -117,7 +117,7 @@ fn delete_objects<S: Alter>(
     Ok(())
 }
 
-/// The change that deletes some objects, those that exist. `outline` is that of the rows before the change.
+/// The change that removes some objects, those that exist. `outline` is that of the rows before the change.
 #[derive(Drop)]
 pub(crate) struct RemoveObjects<'a> {
     pub(crate) alloc: Global,
@@ -159,8 +159,8 @@ pub(crate) fn delete_rows<S: Alter>(
 }
 
 impl<S: Alter> Tables<S> {
-    /// Deletes the objects of these paths, those that exist. The caller ensures that the world is sound afterwards: no
-    /// object that stays refers to a deleted one, and no root points to one.
+    /// Removes the objects of these paths, those that exist. The caller ensures that the world is sound afterwards: no
+    /// object that stays refers to a removed one, and no root points to one.
     ///
     /// ```rust
     /// let paths = [path.clone()?];
