@@ -14,7 +14,7 @@ use Rattle.tool_words.specs.declared.error.CommandError.{CommandError}
 use Rattle.tool_words.specs.declared.error.CommandError.TheVariants.{Usage, Misuse, Memory}
 use Rattle.tool_words.specs.declared.line.ServeArguments.{ServeArguments}
 use Rattle.tool_words.specs.Asked.{Asked, who, ls, text_path, source_path, serve}
-use Rattle.tool_words.specs.Line.{Line}
+use Rattle.tool_words.specs.Line.{IsLine, Line}
 use Rattle.model.specs.declared.failures.Failure.TheVariants.{Memory as NoMemory}
 use Rattle.tool_pure.specs.declared.stops.Stop.{Stop}
 use Rattle.tool_pure.specs.declared.stops.Stop.TheVariants.{Refused, Failed}
@@ -109,6 +109,14 @@ AnswersOpened of_file line opened console =
 abbrev pub RunsLine : Doing → Line → Console → Type 0
 RunsLine of_file line console = StopsUnread (Failed NoMemory) console
     ⊎ ((opened : Opened) × (is_some opened ≡ is_some line.config) × AnswersOpened of_file line opened console)
+
+-- this is true of the command line that the words form, if they form one
+abbrev pub IfLine : List Text → (Line → Type 0) → Type 0
+IfLine words holds = (line : Line) → IsLine words line → holds line
+
+-- this is true if the words form no command line
+abbrev pub IfNoLine : List Text → Type 0 → Type 0
+IfNoLine words holds = ¬ ((line : Line) × IsLine words line) → holds
 
 -- the fault of the words is that they ask for help or for the version
 abbrev pub AsksHelp : CommandError → Type 0

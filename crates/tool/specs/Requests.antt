@@ -46,9 +46,12 @@ abbrev pub on_paths : List ℕ → List Text → (List Path → Request) → Res
 on_paths dir texts ask =
     if list_all (is_path_text dir) texts then Ok (ask (map (base_of dir) texts)) else Err BadStorePath
 
+-- a request to add an object, by its name, its references and its bytes
+abbrev pub Adding : Type 0
+Adding = List ℕ → List Path → List ℕ → Request
+
 -- a request on a name, references and the bytes of the input, if the texts are a name and references
-abbrev pub on_object : List ℕ → Text × List Text → (List ℕ → List Path → List ℕ → Request)
-    → Result (List ℕ → Request) Refusal
+abbrev pub on_object : List ℕ → Text × List Text → Adding → Result (List ℕ → Request) Refusal
 on_object dir o ask = option_map_or Err (named_fault dir o.0 o.1) (Ok (ask o.0 (map (base_of dir) o.1)))
 
 -- the owner of a root: the caller, if no owner is named
@@ -203,8 +206,8 @@ abbrev pub IsAskedBy : Ask → List ℕ → Caller → Stream → Result Made St
 IsAskedBy ask dir c input made = IsAskedOver (LosesInput ask dir c input) (Demands ask dir c) input.old made
 
 -- the request that adds an object of the arguments and the input, which is read to a bound, or why there is none
-pub record AsksObject (most : ℕ) (dir : List ℕ) (o : Text × List Text) (ask : List ℕ → List Path → List ℕ → Request)
-    (input : Stream) (made : Result Made Stop) : Type 0 where
+pub record AsksObject (most : ℕ) (dir : List ℕ) (o : Text × List Text) (ask : Adding) (input : Stream)
+    (made : Result Made Stop) : Type 0 where
   pub asked : IsAskedOver (InputFails (is_ok (on_object dir o ask)) most input)
       (λ bytes. Gives (with_bytes bytes (on_object dir o ask))) input.old made
   pub reads : ConsumesAtMost most input.old input.new

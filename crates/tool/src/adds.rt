@@ -7,7 +7,7 @@ ghost use Rattle.store_types.specs.View.{request_view};
 ghost use Rattle.report.specs.Outputs.{change_of};
 ghost use Rattle.tool_pure.specs.Archive.{max_prefix};
 ghost use Rattle.tool_pure.specs.Object.{most_of_contents};
-ghost use Rattle.tool.specs.Requests.{AsksObject, Gives, IsAsked, on_object, with_bytes};
+ghost use Rattle.tool.specs.Requests.{Adding, AsksObject, Gives, IsAsked, on_object, with_bytes};
 
 use intake::Intake;
 use paths::StoreDir;
@@ -23,9 +23,9 @@ fn parse_arguments(
     dir: &StoreDir,
     object: &ObjectArguments<'_>,
 ) -> Result<Object, Stop>
-    ensures ok { IfOk result (λ o. (ask : List ℕ → List (List ℕ) → List ℕ → asked.Request)
+    ensures ok { IfOk result (λ o. (ask : Adding)
         → on_object dir.now (object_view object.now) ask ≡ Ok (ask o.name o.references.items)) }
-    ensures err { IfErr result (λ e. (ask : List ℕ → List (List ℕ) → List ℕ → asked.Request) (bytes : List ℕ)
+    ensures err { IfErr result (λ e. (ask : Adding) (bytes : List ℕ)
         → IsAsked ⊥ (Gives (with_bytes bytes (on_object dir.now (object_view object.now) ask))) (Err e)) }
 {
     parse_object(alloc, dir, object.name, object.references.as_slice())

@@ -2,9 +2,9 @@
 ghost use Rattle.std.specs.Io.KnownBytes.{Keeps};
 ghost use Rattle.std.specs.Prelude.{◌≡◌, ◌≢◌, IfOk, OnErr, Ok, Err, codes, map, string_bytes, true, false};
 ghost use Rattle.std.specs.IoError.{error_kind};
-ghost use Rattle.tool.specs.Answer.{AnswersOpened, Explains, ExplainsUsage, RunsLine};
+ghost use Rattle.tool.specs.Answer.{AnswersOpened, Explains, ExplainsUsage, IfLine, IfNoLine, RunsLine};
 ghost use Rattle.tool.specs.Files.{DoesFile};
-ghost use Rattle.tool_words.specs.Line.{IsLine, IsUsageFault, Line, line_view};
+ghost use Rattle.tool_words.specs.Line.{IsUsageFault, line_view};
 ghost use Rattle.report.specs.Outputs.{Prints, console_of, printed_of, written_of};
 ghost use Rattle.tool.specs.Requests.{ReadsWithin, most_read};
 ghost use Rattle.tool.specs.Streams.{AnswersOn};
@@ -59,17 +59,16 @@ pub fn run<F: Start, S: AsStr, R: Read, W: Write, E: Write>(
     output: &mut W,
     errors: &mut E,
 ) -> u8
-    ensures line { (line : Line) → IsLine (map S.text words.now) line
-        → RunsLine (DoesFile F.Start ⟦<FileFrom<F> as Disk>⟧) line
+    ensures line { IfLine (map S.text words.now)
+        (λ line. RunsLine (DoesFile F.Start ⟦<FileFrom<F> as Disk>⟧) line
         (console_of R.remaining W.contents E.contents input.old input.new output.old output.new errors.old errors.new
-        result) }
-    ensures words { ¬ ((line : Line) × IsLine (map S.text words.now) line)
-        → (fault : CommandError) × IsUsageFault (map S.text words.now) fault × Explains fault
-        (written_of W.contents E.contents output.old output.new errors.old errors.new result) }
-    ensures reads { (line : Line) → IsLine (map S.text words.now) line
-        → ReadsWithin (most_read line.asked) (R.remaining input.old) (R.remaining input.new) }
-    ensures unread { ¬ ((line : Line) × IsLine (map S.text words.now) line)
-        → Keeps (R.remaining input.old) (R.remaining input.new) }
+        result)) }
+    ensures words { IfNoLine (map S.text words.now)
+        ((fault : CommandError) × IsUsageFault (map S.text words.now) fault × Explains fault
+        (written_of W.contents E.contents output.old output.new errors.old errors.new result)) }
+    ensures reads { IfLine (map S.text words.now)
+        (λ line. ReadsWithin (most_read line.asked) (R.remaining input.old) (R.remaining input.new)) }
+    ensures unread { IfNoLine (map S.text words.now) (Keeps (R.remaining input.old) (R.remaining input.new)) }
 {
     match command(rt.alloc(), words) {
         Ok(line) => {

@@ -16,6 +16,9 @@ returns-in-Ok-clause-line g c = λ line is.
     (c.errors-1.given.1 same.2) in
     line_run _ _ (line_view c.in-Ok.line) line _ c.in-Ok.ensures.ok is done.answer
 
+pub returns-in-Ok-clause-words : goal.returns-in-Ok-clause-words
+returns-in-Ok-clause-words g c = λ none. absurd (none (line_view c.in-Ok.line, c.in-Ok.ensures.ok))
+
 pub returns-in-Err-clause-words : goal.returns-in-Err-clause-words
 returns-in-Err-clause-words g c = λ none. (c.in-Err.fault, c.in-Err.ensures.err, c.explain.ensures)
 
