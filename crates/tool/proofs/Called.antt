@@ -208,11 +208,3 @@ pub asking : (o : Option Ask) (P : Type 0) (Q : Ask → Type 0) → is_some o �
     → MatchOption o P Q
 asking None P Q is h = let no : false ≡ true = is in cc
 asking (Some ask) P Q is h = h ask refl
-
-pub unasked : (o : Option Ask) → is_some o ≡ false → o ≡ None
-unasked None is = refl
-unasked (Some ask) is = let no : true ≡ false = is in cc
-
-pub asking_none : (o : Option Ask) (P : Type 0) (Q : Ask → Type 0) → is_some o ≡ false → P → MatchOption o P Q
-asking_none None P Q is h = h
-asking_none (Some ask) P Q is h = let no : true ≡ false = is in cc

@@ -1,18 +1,17 @@
 //! Answering a command line by the text of its configuration.
-ghost use Rattle.std.specs.Prelude.{◌≡◌, None, Some};
+ghost use Rattle.std.specs.Prelude.{Some};
 ghost use Rattle.report.specs.Outputs.{console_of};
-ghost use Rattle.tool.specs.Answer.{AnswersWithoutRequest, AnswersLine, AnswersLs, AnswersSourcePath, AnswersTextPath};
+ghost use Rattle.tool.specs.Answer.{AnswersLine, AnswersLs, AnswersSourcePath, AnswersTextPath};
 ghost use Rattle.tool.specs.Files.{DoesFile};
 ghost use Rattle.tool_words.specs.Asked as asked;
 ghost use Rattle.tool_words.specs.Line.{line_view};
-ghost use Rattle.tool.specs.Requests.{AnswersReading, asks, most_read};
+ghost use Rattle.tool.specs.Requests.{AnswersReading, most_read};
 ghost use Rattle.tool.specs.Streams.{AnswersOn};
 ghost use Rattle.tool_pure.specs.Archive.{max_prefix};
 ghost use Rattle.tool_pure.specs.Object.{most_of_contents};
 
 use crate::calls::call;
 use crate::console::Console;
-use crate::requests::is_asked;
 use crate::serve::serve;
 use policy::store_dir;
 use sqlite::{FileFrom, Start};
@@ -92,31 +91,6 @@ fn source_path_under<R: Read, W: Write, E: Write>(
     }
 }
 
-/// Answers a command line whose subcommand makes no request to a store itself.
-fn answer_without_request<F: Start, R: Read, W: Write, E: Write>(
-    rt: &HostRuntime,
-    start: F,
-    config: &[u8],
-    line: &CommandLine<'_>,
-    console: &mut Console<'_, '_, '_, R, W, E>,
-) -> u8
-    requires { asks (asked.asked_view line.now.task) ≡ None }
-    ensures { AnswersOn (most_read (asked.asked_view line.now.task))
-        (AnswersWithoutRequest (DoesFile F.Start ⟦<FileFrom<F> as Disk>⟧) config.now (line_view line.now)
-        (asked.asked_view line.now.task))
-        R.remaining W.contents E.contents console.old console.new result }
-{
-    let alloc = rt.alloc();
-    match &line.task {
-        Task::Who => who(alloc, config, line.user, line.group, console.output),
-        Task::Ls => ls_under(alloc, config, console),
-        Task::TextPath(object) => text_path_under(alloc, config, object, console),
-        Task::SourcePath(object) => source_path_under(alloc, config, object, console),
-        Task::Serve(serving) => serve(rt, start, config, line.db, *serving, console),
-        _ => unreachable!(),
-    }
-}
-
 /// Answers a command line by the text of its configuration, on a console, and returns the exit status.
 pub(crate) fn answer_line<F: Start, R: Read, W: Write, E: Write>(
     rt: &HostRuntime,
@@ -129,10 +103,15 @@ pub(crate) fn answer_line<F: Start, R: Read, W: Write, E: Write>(
         (AnswersLine (DoesFile F.Start ⟦<FileFrom<F> as Disk>⟧) config.now (line_view line.now))
         R.remaining W.contents E.contents console.old console.new result }
 {
-    if is_asked(&line.task) {
-        return call(rt, start, config, line, console);
+    let alloc = rt.alloc();
+    match &line.task {
+        Task::Who => who(alloc, config, line.user, line.group, console.output),
+        Task::Ls => ls_under(alloc, config, console),
+        Task::TextPath(object) => text_path_under(alloc, config, object, console),
+        Task::SourcePath(object) => source_path_under(alloc, config, object, console),
+        Task::Serve(serving) => serve(rt, start, config, line.db, *serving, console),
+        _ => call(rt, start, config, line, console),
     }
-    answer_without_request(rt, start, config, line, console)
 }
 
 /// Answers a command line by the text of its configuration, and returns the exit status: 0 done, 1

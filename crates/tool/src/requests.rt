@@ -1,5 +1,5 @@
 //! The request of a subcommand, by its arguments, and by its input if it reads one.
-ghost use Rattle.std.specs.Prelude.{◌≡◌, IsSome, Some, is_some};
+ghost use Rattle.std.specs.Prelude.{◌≡◌, IsSome, Some};
 ghost use Rattle.tool_words.specs.Asked.{asked_view};
 ghost use Rattle.model.specs.Request as asked;
 ghost use Rattle.report.specs.Outputs.{change_of};
@@ -18,19 +18,6 @@ use std::io::Read;
 use store_types::Request;
 use tool_pure::{Stop, parse_reference};
 use tool_words::Task;
-
-/// Whether a subcommand makes a request to a store.
-pub(crate) fn is_asked(task: &Task<'_>) -> bool
-    ensures { result ≡ is_some (asks (asked_view task.now)) }
-{
-    match task {
-        Task::List | Task::Live | Task::Dead | Task::Roots | Task::Report | Task::Gc(_) => true,
-        Task::Info(_) | Task::CatNar(_) | Task::Why(_) | Task::Delete(_) => true,
-        Task::AddText(_) | Task::AddSource(_) | Task::Import | Task::Runtime => true,
-        Task::Root(_) | Task::Unroot(_) | Task::Profile(_) | Task::Temp(_) => true,
-        _ => false,
-    }
-}
 
 /// The request for the roots that reach a path.
 fn why(alloc: Global, dir: &StoreDir, text: &str) -> Result<Request, Stop>
