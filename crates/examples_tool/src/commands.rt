@@ -4,7 +4,8 @@ use policy::{Class, Rule};
 use std::alloc::Global;
 use std::test::Fail;
 use tool::{
-    CommandError, Task, Unknown, answer, command, judge, ls, run, source_path, text_path, who,
+    CommandError, Console, Task, Unknown, answer, command, judge, ls, run, source_path, text_path,
+    who,
 };
 
 /// The archive of a file whose contents are `mycontent` and a line feed.
@@ -68,15 +69,12 @@ fn is_answered(rt: &HostRuntime, words: &[&str], first: &[u8]) -> Result<bool, C
     let line = command(rt.alloc(), words)?;
     let mut input = b"".as_slice();
     let (mut output, mut errors) = (Vec::new(rt.alloc()), Vec::new(rt.alloc()));
-    let status = answer(
-        rt,
-        Unknown,
-        b"",
-        &line,
-        &mut input,
-        &mut output,
-        &mut errors,
-    );
+    let mut console = Console {
+        input: &mut input,
+        output: &mut output,
+        errors: &mut errors,
+    };
+    let status = answer(rt, Unknown, b"", &line, &mut console);
     Ok(status == 0 && errors.is_empty() && output.starts_with(first))
 }
 

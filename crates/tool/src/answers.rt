@@ -1,11 +1,10 @@
 //! Answering a command line by the text of its configuration.
 ghost use Rattle.std.specs.Prelude.{Some};
-ghost use Rattle.report.specs.Outputs.{console_of};
 ghost use Rattle.tool.specs.Answer.{AnswersLine, AnswersLs, AnswersSourcePath, AnswersTextPath};
 ghost use Rattle.tool.specs.Files.{DoesFile};
 ghost use Rattle.tool_words.specs.Asked as asked;
 ghost use Rattle.tool_words.specs.Line.{line_view};
-ghost use Rattle.tool.specs.Requests.{AnswersReading, most_read};
+ghost use Rattle.tool.specs.Requests.{most_read};
 ghost use Rattle.tool.specs.Streams.{AnswersOn};
 ghost use Rattle.tool_pure.specs.Archive.{max_prefix};
 ghost use Rattle.tool_pure.specs.Object.{most_of_contents};
@@ -91,8 +90,31 @@ fn source_path_under<R: Read, W: Write, E: Write>(
     }
 }
 
-/// Answers a command line by the text of its configuration, on a console, and returns the exit status.
-pub(crate) fn answer_line<F: Start, R: Read, W: Write, E: Write>(
+/// Answers a command line by the text of its configuration, and returns the exit status: 0 done, 1
+/// failed, 3 refused, 4 denied.
+///
+/// Results go to the console's `output`; refusals and failures go to its `errors`, but for `who`, which puts everything
+/// on `output`. The configuration file that the command line names isn't read. The input is read only by a subcommand
+/// that needs it, and no more than 16,777,224 bytes of it, but by `import` and `runtime`, which read all of it, and by
+/// `serve`, which reads what its connection sends.
+/// `start` is ghost, as in `run`: what a theorem assumes of the database file.
+///
+/// ```rust
+/// use tool::{Console, Unknown};
+///
+/// let words = ["nixkeep", "--user", "ann", "report"];
+/// let line = tool::command(alloc, &words)?;
+/// let mut input = b"".as_slice();
+/// let (mut output, mut errors) = (Vec::new(alloc), Vec::new(alloc));
+/// let mut console = Console {
+///     input: &mut input,
+///     output: &mut output,
+///     errors: &mut errors,
+/// };
+/// let status = tool::answer(&rt, Unknown, b"", &line, &mut console);
+/// assert!(rt; status == 0 && output.starts_with(b"class       paths            bytes\n"));
+/// ```
+pub fn answer<F: Start, R: Read, W: Write, E: Write>(
     rt: &HostRuntime,
     start: F,
     config: &[u8],
@@ -112,45 +134,4 @@ pub(crate) fn answer_line<F: Start, R: Read, W: Write, E: Write>(
         Task::Serve(serving) => serve(rt, start, config, line.db, *serving, console),
         _ => call(rt, start, config, line, console),
     }
-}
-
-/// Answers a command line by the text of its configuration, and returns the exit status: 0 done, 1
-/// failed, 3 refused, 4 denied.
-///
-/// Results go to `output`; refusals and failures go to `errors`, but for `who`, which puts everything
-/// on `output`. The configuration file that the command line names isn't read. The input is read only by a subcommand
-/// that needs it, and no more than 16,777,224 bytes of it, but by `import` and `runtime`, which read all of it, and by
-/// `serve`, which reads what its connection sends.
-/// `start` is ghost, as in `run`: what a theorem assumes of the database file.
-///
-/// ```rust
-/// use tool::Unknown;
-///
-/// let words = ["nixkeep", "--user", "ann", "report"];
-/// let line = tool::command(alloc, &words)?;
-/// let mut input = b"".as_slice();
-/// let (mut output, mut errors) = (Vec::new(alloc), Vec::new(alloc));
-/// let status = tool::answer(&rt, Unknown, b"", &line, &mut input, &mut output, &mut errors);
-/// assert!(rt; status == 0 && output.starts_with(b"class       paths            bytes\n"));
-/// ```
-pub fn answer<F: Start, R: Read, W: Write, E: Write>(
-    rt: &HostRuntime,
-    start: F,
-    config: &[u8],
-    line: &CommandLine<'_>,
-    input: &mut R,
-    output: &mut W,
-    errors: &mut E,
-) -> u8
-    ensures { AnswersReading (most_read (asked.asked_view line.now.task))
-        (AnswersLine (DoesFile F.Start ⟦<FileFrom<F> as Disk>⟧) config.now (line_view line.now))
-        (console_of R.remaining W.contents E.contents input.old input.new output.old output.new errors.old errors.new
-        result) }
-{
-    let mut console = Console {
-        input,
-        output,
-        errors,
-    };
-    answer_line(rt, start, config, line, &mut console)
 }

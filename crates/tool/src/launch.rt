@@ -13,7 +13,7 @@ ghost use Rattle.tool_pure.specs.Stream.{Answers, Says};
 ghost use Rattle.tool_words.specs.declared.error.CommandError.{CommandError};
 ghost use Rattle.tool_words.specs.declared.error.CommandError.TheVariants.{Misuse};
 
-use crate::answers::answer_line;
+use crate::answers::answer;
 use crate::console::Console;
 use clap::Error;
 use report::print;
@@ -110,7 +110,7 @@ fn answer_by<F: Start, C: Read + Drop, R: Read, W: Write, E: Write>(
         R.remaining W.contents E.contents console.old console.new result }
 {
     match config_text(rt.alloc(), file) {
-        Ok(text) => answer_line(rt, start, text.as_slice(), line, console),
+        Ok(text) => answer(rt, start, text.as_slice(), line, console),
         Err(stop) => match line.task {
             Task::Who => say(stop, console.output),
             _ => say(stop, console.errors),

@@ -20,6 +20,7 @@ mod temporary;
 mod work;
 
 pub use answers::answer;
+pub use console::Console;
 pub use launch::{refuse_words, run};
 pub use report::Refusal;
 pub use sqlite::Unknown;

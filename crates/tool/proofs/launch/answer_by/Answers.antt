@@ -14,11 +14,11 @@ returns-in-Ok g c = record {
       Ok c.as_slice.result.now,
       subst (λ b. IsConfig (opened_by g.C.Read.remaining c.args.file) (Ok b)) (sym c.as_slice.ensures.value)
           c.in-Ok.ensures,
-      c.answer_line.ensures.given.answer,
+      c.answer.ensures.given.answer,
     );
-    reads = c.answer_line.ensures.given.reads;
+    reads = c.answer.ensures.given.reads;
   };
-  same = c.answer_line.ensures.same;
+  same = c.answer.ensures.same;
 }
 
 pub returns-in-Who : goal.returns-in-Who
