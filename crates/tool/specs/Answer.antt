@@ -110,11 +110,11 @@ abbrev pub RunsLine : Doing → Line → Console → Type 0
 RunsLine of_file line console = StopsUnread (Failed NoMemory) console
     ⊎ ((opened : Opened) × (is_some opened ≡ is_some line.config) × AnswersOpened of_file line opened console)
 
--- this is true of the command line that the words form, if they form one
+-- true of the command line that the words form, if they form one
 abbrev pub IfLine : List Text → (Line → Type 0) → Type 0
 IfLine words holds = (line : Line) → IsLine words line → holds line
 
--- this is true if the words form no command line
+-- true if the words form no command line
 abbrev pub IfNoLine : List Text → Type 0 → Type 0
 IfNoLine words holds = ¬ ((line : Line) × IsLine words line) → holds
 
