@@ -1,7 +1,6 @@
 -- The answer of a command line that asks something of a store.
-use Rattle.std.proofs.Common.{◌≡◌, ◌⊎◌, ℕ, true, false, List, map, Option, Some, None, Result, Ok, Err, inl, inr, subst}
+use Rattle.std.proofs.Common.{◌≡◌, ◌⊎◌, ℕ, List, map, Option, Some, None, Result, Ok, Err, inl, inr, subst}
 use Rattle.std.proofs.Common.{refl, sym}
-use Rattle.std.specs.Prelude.{MatchOption, is_some}
 use Rattle.sqlite_trees.specs.declared.store.Store.{Ghosts}
 use Rattle.sqlite.specs.State.{HasCleanDisk}
 use Rattle.sqlite.specs.Held.{state}
@@ -201,10 +200,3 @@ found_under most answer config console s o dir refs found same lent given =
     (answer s.store_dir o.0 (map (base_of s.store_dir) rs)) console) lent
     (subst (λ (d : List ℕ). AnswersInput (object_fault d o.0 refs) most (answer d o.0 (map (base_of d) refs)) console)
     same given))
-
--- ---- whether something is asked
-
-pub asking : (o : Option Ask) (P : Type 0) (Q : Ask → Type 0) → is_some o ≡ true → ((ask : Ask) → o ≡ Some ask → Q ask)
-    → MatchOption o P Q
-asking None P Q is h = let no : false ≡ true = is in cc
-asking (Some ask) P Q is h = h ask refl

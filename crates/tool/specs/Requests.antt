@@ -170,6 +170,10 @@ pub record AnswersReading (most : Option ℕ) (answers : Console → Type 0) (co
   pub answer : answers console
   pub reads : ReadsWithin most console.input.old console.input.new
 
+-- what a subcommand asks of a store, if it asks something, is answered
+abbrev pub AnswersAsked : Asked → (Ask → Console → Type 0) → Console → Type 0
+AnswersAsked task answers console = (ask : Ask) → asks task ≡ Some ask → answers ask console
+
 -- ---- what a program makes of the words and the input
 
 -- each reply and each step of the first request is one of the second too

@@ -7,9 +7,9 @@ ghost use Rattle.store.specs.Calls.{Calls};
 ghost use Rattle.tool_pure.specs.PrintedReply.{IsPrinted};
 ghost use Rattle.tool_words.specs.Asked.{asked_view};
 ghost use Rattle.tool_words.specs.Line.{line_view};
-ghost use Rattle.tool.specs.Answer.{AnswersLine};
+ghost use Rattle.tool.specs.Answer.{AnswersAsking};
 ghost use Rattle.tool.specs.Files.{DoesFile};
-ghost use Rattle.tool.specs.Requests.{asks, most_read};
+ghost use Rattle.tool.specs.Requests.{AnswersAsked, asks, most_read};
 ghost use Rattle.tool.specs.Streams.{AnswersOn};
 ghost use Rattle.tool.specs.Works.{calls};
 
@@ -106,7 +106,8 @@ pub(crate) fn call<F: Start, R: Read, W: Write, E: Write>(
 ) -> u8
     requires { IsSome (asks (asked_view line.now.task)) }
     ensures { AnswersOn (most_read (line_view line.now).asked)
-        (AnswersLine (DoesFile F.Start ⟦<FileFrom<F> as Disk>⟧) config.now (line_view line.now))
+        (AnswersAsked (line_view line.now).asked
+        (AnswersAsking (DoesFile F.Start ⟦<FileFrom<F> as Disk>⟧) config.now (line_view line.now)))
         R.remaining W.contents E.contents console.old console.new result }
 {
     let config = match settings(rt.alloc(), config) {
