@@ -632,6 +632,44 @@ def test_two_restores_at_once(store, restored):
     os.close(opened)
 
 
+def test_a_restore_below_a_server_that_is_none_of_the_units(store, restored, units):
+    """It is refused while a process has the file or its log open. Then the units run again."""
+    copy, log, moved = f"{store.to}/{store.copies()[0]}", f"{store.file}-wal", f"{store.folder}/moved.db"
+    refused = lambda file: fails_with(f"failed: restore: {file} is locked by process ", restored(copy))
+    with servers.server(store.program, "--config", store.config, "--db", store.file) as port:
+        place = http_client.Place(f"http://127.0.0.1:{port}")
+        wanted, seen = all_of_server(place), os.stat(store.file)
+        refused(store.file)
+        assert all((units.folder / it).exists() for it in UNITS)
+        os.rename(store.file, moved)
+        refused(log)
+        os.rename(moved, store.file)
+        assert (all_of_server(place), os.stat(store.file).st_ino) == (wanted, seen.st_ino)
+    with store_file.open_store(store.file):
+        refused(store.file)
+    assert not [it for it in os.listdir(store.folder) if it.startswith(("aside-", "store.new"))]
+    assert restored(copy)[0] == 0
+
+
+def test_a_store_that_is_begun_in_a_restore(store, good, folder, monkeypatch):
+    """It stays, and the restore fails. Where there is a store a server is refused meanwhile."""
+    copy, real, answers = f"{store.to}/{store.copies()[0]}", backup_restore.fill, []
+    listed = lambda room: ran([store.program, "--db", f"{room}/store.db", "--user", "ann", "list"])
+
+    def fill(name, number, source):
+        real(name, number, source)
+        answers.append(listed(os.readlink(f"/proc/self/fd/{number}")))
+
+    monkeypatch.setattr(backup_restore, "fill", fill)
+    os.mkdir(empty := f"{folder}/empty")
+    with pytest.raises(Stop, match="File exists"):
+        backup_restore.put(copy, empty)
+    assert answers.pop() == listed(empty) == (0, b"", b"")
+    assert sorted(os.listdir(empty)) == ["store.db", "store.db-wal"]
+    backup_restore.put(copy, store.folder)
+    assert answers.pop()[0] == 3 and listed(store.folder)[1].count(b"\n") == 6
+
+
 @pytest.mark.parametrize("names", [["store.db"], ["store.db-wal", "store.db-x"]])
 def test_a_restore_of_what_a_service_has_left(names, store, restored):
     """Folders in the place of files are moved away as files are."""

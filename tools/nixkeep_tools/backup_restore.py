@@ -7,7 +7,7 @@ import shutil
 import stat
 import time
 
-from . import backup_file, store_file
+from . import backup_file, explain_file, store_file
 from .count_of import count_of
 from .failures import Stop, reason
 
@@ -79,11 +79,41 @@ def is_folder(name, folder):
     return stat.S_ISDIR(os.lstat(name, dir_fd=folder).st_mode)
 
 
-def link(folder, aside):
-    """Gives the files of a store further names in another folder; both are open. If that fails they have none: nixkeep
+@contextlib.contextmanager
+def held(names, folder):
+    """Keeps every process from opening these files in an open folder, as a server does. Raises Stop if one has one of
+    them open: a server that is none of the units', or what reads the store."""
+    with contextlib.ExitStack() as all_open:
+        for it in names:
+            if (number := for_locking(it, folder)) is None:
+                continue
+            all_open.callback(os.close, number)
+            if not store_file.lock(number):
+                path = os.path.join(os.readlink(f"/proc/self/fd/{folder}"), it)
+                why = explain_file.of_locks(f"/proc/self/fd/{number}", path)
+                raise Stop(f"failed: restore: {why[0].text if why else f'{path} was locked'}")
+        yield
+
+
+def for_locking(name, folder):
+    """The number of an open file that a server may have locked, or None for what is no file. In a folder of another
+    account root follows no link, and opens no device."""
+    is_foreign = not os.geteuid() and os.fstat(folder).st_uid
+    try:
+        seen = os.open(name, os.O_PATH | (os.O_NOFOLLOW if is_foreign else 0), dir_fd=folder)
+    except OSError:
+        return None
+    try:
+        return os.open(f"/proc/self/fd/{seen}", os.O_RDWR) if stat.S_ISREG(os.fstat(seen).st_mode) else None
+    finally:
+        os.close(seen)
+
+
+def link(names, folder, aside):
+    """Gives files of a store further names in another folder; both are open. If that fails they have none: nixkeep
     refuses a file with two."""
     try:
-        for it in files_of(folder):
+        for it in names:
             if not is_folder(it, folder):
                 os.link(it, it, src_dir_fd=folder, dst_dir_fd=aside, follow_symlinks=False)
         os.fsync(aside)
@@ -93,15 +123,24 @@ def link(folder, aside):
         raise
 
 
-def move_aside(folder, aside):
-    """Moves the files of a store into another folder, but for the name of `store.db`, which the copy takes over: if the
+def move_aside(names, folder, aside):
+    """Moves files of a store into another folder, but for the name of `store.db`, which the copy takes over: if the
     machine stops before that, no server begins a new store there, and none opens the file, which has two names."""
-    link(folder, aside)
-    for it in files_of(folder):
+    link(names, folder, aside)
+    for it in names:
         if is_folder(it, folder):
             os.rename(it, it, src_dir_fd=folder, dst_dir_fd=aside)
         elif it != STORE:
             os.unlink(it, dir_fd=folder)
+
+
+def name_copy(folder, replaced):
+    """Gives the copy the name of the store's file, whether or not there was one. If not, it replaces none: a server may
+    have begun a store meanwhile."""
+    if replaced:
+        return os.rename(FRESH, STORE, src_dir_fd=folder, dst_dir_fd=folder)
+    os.link(FRESH, STORE, src_dir_fd=folder, dst_dir_fd=folder)
+    os.unlink(FRESH, dir_fd=folder)
 
 
 def put(copy: str, folder: str) -> str:
@@ -110,22 +149,25 @@ def put(copy: str, folder: str) -> str:
         # (the copy is opened once: nobody can put a link in its place)
         with opened(folder) as here, store_file.opened(copy) as source:
             fcntl.flock(here, fcntl.LOCK_EX | fcntl.LOCK_NB)
-            return f"{folder}/{put_from(source, here)}"
+            with held(names := files_of(here), here):
+                return f"{folder}/{put_from(source, names, here)}"
     except BlockingIOError:
         raise Stop(f"failed: restore: {folder}: another restore is running") from None
     except OSError as error:
         raise Stop(f"failed: restore: {os.path.join(folder, error.filename or '')}: {reason(error)}") from None
 
 
-def put_from(source, folder):
-    """Puts a copy, which is open, into the open folder of a store. Returns the name of the folder of what was there."""
+def put_from(source, names, folder):
+    """Puts a copy, which is open, into the open folder of a store, which has files of these names. Returns the name of
+    the folder of what was there."""
     aside = f"{ASIDE}{time.strftime('%Y-%m-%dT%H-%M-%SZ', time.gmtime())}"
+    replaced = STORE in names and not is_folder(STORE, folder)
     try:
         fill(FRESH, folder, source)
         os.mkdir(aside, 0o700, dir_fd=folder)
         with opened(aside, folder) as moved:
-            move_aside(folder, moved)
-        os.rename(FRESH, STORE, src_dir_fd=folder, dst_dir_fd=folder)
+            move_aside(names, folder, moved)
+        name_copy(folder, replaced)
         os.fsync(folder)
     except OSError:
         with contextlib.suppress(OSError):

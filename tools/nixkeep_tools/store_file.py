@@ -93,6 +93,16 @@ def locker(file: BinaryIO) -> int | None:
     return None if kind == fcntl.F_UNLCK else max(pid, 0)
 
 
+def lock(file: int) -> bool:
+    """Takes the lock by which a server has an open file for itself, until the file is closed. Returns whether it could.
+    The file has to be open for writing."""
+    asked = struct.pack("hhqqi4x", fcntl.F_WRLCK, os.SEEK_SET, *LOCKED, 0)
+    with contextlib.suppress(BlockingIOError):
+        fcntl.fcntl(file, fcntl.F_OFD_SETLK, asked)
+        return True
+    return False
+
+
 def log_of(path: str) -> str:
     """The path of the log of a file. If the file is a link, the log is next to its target."""
     # (Path.resolve raises an error for a link that leads to itself)
