@@ -2,6 +2,7 @@
 
 systemctl is a script here, which notes what it is asked.
 """
+import concurrent.futures
 import contextlib
 import datetime
 import errno
@@ -44,7 +45,7 @@ is-active)
   if [ -e "$UNITS/$unit" ]; then state=active; else state=inactive; fi
   [ "$2" = --quiet ] || echo $state; [ $state = active ] ;;
 show) cat "$UNITS/memory" ;;
-stop) rm -f "$UNITS/$unit" ;;
+stop) rm -f "$UNITS/$unit"; while [ -e "$UNITS/held" ]; do sleep 0.1; done ;;
 start) : >"$UNITS/$unit" ;;
 esac
 """
@@ -630,6 +631,23 @@ def test_two_restores_at_once(store, restored):
     fails_with("another restore is running", restored(f"{store.to}/{store.copies()[0]}"))
     assert store.bytes() == before
     os.close(opened)
+
+
+@pytest.mark.skipif(os.geteuid() != 0, reason="only root starts and stops units")
+def test_a_restore_while_another_one_stops_units(store, restored, units):
+    """It stops and starts none: or the server would be started below the other."""
+    copy, held = f"{store.to}/{store.copies()[0]}", units.folder / "held"
+    held.touch()
+    with concurrent.futures.ThreadPoolExecutor() as pool:
+        first = pool.submit(restored, copy)
+        while not units.notes.exists() or "stop" not in (asked := units.notes.read_text()):
+            time.sleep(0.1)
+        second = pool.submit(restored, copy)
+        concurrent.futures.wait([second], 20)
+        was_asked = units.notes.read_text()
+        held.unlink()
+        fails_with("another restore is running", second.result())
+        assert (first.result()[0], was_asked) == (0, asked)
 
 
 def test_a_restore_below_a_server_that_is_none_of_the_units(store, restored, units):

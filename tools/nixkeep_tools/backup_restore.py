@@ -50,6 +50,30 @@ def stopped(name):
 
 
 @contextlib.contextmanager
+def alone(folder):
+    """One restore of a folder by root at a time, from before its units are stopped: of two, the one that ends first
+    would start the server below the other. The account of the store can't open what is locked, and so stop no restore.
+    """
+    if os.geteuid():
+        yield
+        return
+    seen = os.stat(folder)
+    lock = f"/run/nixkeep-restore-{seen.st_dev}-{seen.st_ino}.lock"
+    number = os.open(lock, os.O_RDWR | os.O_CREAT | os.O_NOFOLLOW, 0o600)
+    try:
+        fcntl.flock(number, fcntl.LOCK_EX | fcntl.LOCK_NB)
+        yield
+    except BlockingIOError:
+        raise another(folder) from None
+    finally:
+        os.close(number)
+
+
+def another(folder):
+    return Stop(f"failed: restore: {folder}: another restore is running")
+
+
+@contextlib.contextmanager
 def opened(folder, within=None):
     """The number of an open folder: whatever gets its name meanwhile, what is done by the number is done there."""
     number = os.open(folder, os.O_RDONLY | os.O_DIRECTORY | os.O_NOFOLLOW, dir_fd=within)
@@ -152,7 +176,7 @@ def put(copy: str, folder: str) -> str:
             with held(names := files_of(here), here):
                 return f"{folder}/{put_from(source, names, here)}"
     except BlockingIOError:
-        raise Stop(f"failed: restore: {folder}: another restore is running") from None
+        raise another(folder) from None
     except OSError as error:
         raise Stop(f"failed: restore: {os.path.join(folder, error.filename or '')}: {reason(error)}") from None
 
@@ -190,6 +214,6 @@ def restore(words: argparse.Namespace) -> str:
         raise Stop(f"failed: copy: {words.copy}-wal: a copy is one file, without a log")
     count, size = backup_file.rows(words.copy)
     backup_file.explain(words.copy, config)
-    with stopped(words.name):
+    with alone(folder), stopped(words.name):
         aside = put(words.copy, folder)
     return f"restored {count_of(count, 'object')}, {size} bytes from {words.copy}; the files before are in {aside}"
