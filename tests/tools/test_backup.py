@@ -21,7 +21,8 @@ import pytest
 
 from nixkeep_dev.build.program import HERE
 from nixkeep_dev.testing.store import killed
-from nixkeep_tools import as_owner, backup_file, backup_folder, backup_restore, http_client, objects, store_file
+from nixkeep_tools import as_owner, backup_check, backup_file, backup_folder, backup_restore, http_client, objects
+from nixkeep_tools import store_file, store_size
 from nixkeep_tools.failures import Stop
 from tests.tools import servers
 from tests.tools.servers import ran
@@ -334,6 +335,20 @@ def test_a_check_of_a_server(store, units):
 
 def fails_with(line, came):
     assert came[0] == 1 and line in came[2]
+
+
+@pytest.mark.parametrize("unit, machine, swap, line", [
+    ("infinity", 4_000, 0, None), ("infinity", 3_999, 0, "the machine has 3999 bytes"),
+    ("infinity", 3_000, 1_000, None), ("4000", 5_000, 0, None), ("3999", 5_000, 0, "red has MemoryMax 3999 bytes"),
+    ("4000", 3_999, 0, "the machine has 3999 bytes")])
+def test_a_server_that_may_not_open_again(unit, machine, swap, line, monkeypatch):
+    """By docs/OPERATING.md, Growth: archives that have more than three quarters of its memory."""
+    monkeypatch.setattr(backup_file, "ran", lambda *_: f"{unit}\n")
+    monkeypatch.setattr(store_size, "machine", lambda: machine)
+    monkeypatch.setattr(backup_check, "swap", lambda: swap)
+    refused = pytest.raises(Stop, match=f"^failed: memory: {line}, in which a store of 3000 bytes may not open")
+    with refused if line else contextlib.nullcontext():
+        backup_check.refuse_large("total 7 3000\n", "red")
 
 
 @contextlib.contextmanager

@@ -231,6 +231,39 @@ def test_what_counts_for_no_share(unit):
         assert [add("bob", it)[0] for it in ("d", "e")] == [200, 200]
 
 
+# The limit of a group that has none, by the first version of control groups.
+NONE = 9_223_372_036_854_771_712
+
+
+@pytest.mark.parametrize("own, place, name, none", [
+    ("0::{}\n", "", "memory.max", "max"),
+    ("4:memory:{}\n", "/memory", "memory.limit_in_bytes", NONE),
+    ("5:cpuset:/\n4:cpu,memory:{}\n0::/other\n", "/memory", "memory.limit_in_bytes", NONE),
+])
+def test_the_limit_of_a_group(own, place, name, none, folder, monkeypatch):
+    """`MemoryMax=` is found by either version of control groups, and the machine's memory counts where it is less: a
+    service may have no limit, or one that isn't enforced."""
+    monkeypatch.setattr(store_size, "CGROUPS", f"{folder}/cgroup")
+    monkeypatch.setattr(store_size, "OWN", f"{folder}/own")
+    monkeypatch.setattr(store_size, "machine", lambda: 4 << 30)
+    group = Path(f"{folder}/cgroup{place}/system.slice/store.service")
+    assert store_size.memory() == 4 << 30, "a system without groups"
+    Path(f"{folder}/own").write_text(own.format("/system.slice/store.service"))
+    group.mkdir(parents=True)
+    for it, limit in ((group, none), (group.parent, none)):
+        (it / name).write_text(f"{limit}\n")
+        assert store_size.memory() == 4 << 30, "no limit"
+    for it, limit in ((group, 3 << 30), (group.parent, 2 << 30), (Path(f"{folder}/cgroup{place}"), 1 << 30)):
+        (it / name).write_text(f"{limit}\n")
+        assert store_size.memory() == limit, "that of the group, and of those above it"
+
+
+@pytest.mark.parametrize("limit, opened", [(0, 0), (1 << 20, 0), (400_000_000, 100_000_000)])
+def test_what_little_memory_opens(limit, opened):
+    """docs/OPERATING.md, Growth: 200 MB, the bytes of the file, and its page cache, which has all of a small file."""
+    assert store_size.opened_with(limit) == opened
+
+
 def test_the_limit_by_memory(folder, monkeypatch):
     """The usual limit follows from the memory of the service."""
     Path(f"{folder}/cgroup/system.slice/store.service").mkdir(parents=True)
@@ -238,13 +271,13 @@ def test_the_limit_by_memory(folder, monkeypatch):
     Path(f"{folder}/cgroup/system.slice/memory.max").write_text("max\n")
     monkeypatch.setattr(store_size, "CGROUPS", f"{folder}/cgroup")
     monkeypatch.setattr(store_size, "OWN", f"{folder}/own")
-    assert cache_limit.usual() is None, "no limit of memory is no limit of the file"
+    monkeypatch.setattr(store_size, "machine", lambda: 4 << 30)
     Path(f"{folder}/cgroup/system.slice/store.service/memory.max").write_text(f"{2 << 30}\n")
     # (docs/OPERATING.md, Growth: with 2 GiB no file of more than about 1.5 GiB is opened)
     part = cache_limit.usual() / (1.5 * (1 << 30))
     assert 0.55 < part < 0.65, ("MemoryMax=2G opens about 1.5 GiB, of which 0.6 are accepted", part)
     Path(f"{folder}/own").write_text("0::/\n")
-    assert store_size.memory() is None, "a group without a file of limits has none"
+    assert store_size.memory() == 4 << 30, "a group without a file of limits has none"
     Path(f"{folder}/cgroup/memory.max").write_text(f"{1 << 30}\n")
     assert store_size.memory() == 1 << 30, "the limit of a container is that of its first group"
     for own in ("/system.slice/store.service", "/../other/x", "/system.slice/"):

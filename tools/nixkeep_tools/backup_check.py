@@ -7,7 +7,7 @@ import sqlite3
 import subprocess
 from pathlib import Path
 
-from . import as_owner, backup_file, store_file
+from . import as_owner, backup_file, store_file, store_size
 from .failures import Stop, reason
 from .http_client import Place, Server
 
@@ -33,17 +33,25 @@ def report_of(url, config):
 
 
 def memory_of(unit):
-    """The bytes of memory that a unit may use, or None without a limit."""
+    """The bytes of memory that a unit may use, and what says so. A server that runs may be in the swap space."""
     text = backup_file.ran(["systemctl", "show", "--property", "MemoryMax", "--value", unit], "unit").strip()
-    return int(text) if text.isdigit() else None
+    machine = store_size.machine() + swap(), "the machine has"
+    return min((int(text), f"{unit} has MemoryMax"), machine) if text.isdigit() else machine
+
+
+def swap():
+    """The bytes of the machine's swap space."""
+    with contextlib.suppress(OSError), open("/proc/meminfo", encoding="ascii") as file:
+        return sum(int(it.split()[1]) << 10 for it in file if it.startswith("SwapTotal:"))
+    return 0
 
 
 def refuse_large(text, unit):
-    """Raises Stop if a server with the archives of this report may not fit into the memory of its unit."""
-    size, limit = int(backup_file.TOTAL.search(text)[2]), memory_of(unit)
-    if limit is not None and size > limit * OPENS:
-        raise Stop(f"failed: memory: {unit} has MemoryMax={limit}, in which a store of {size} bytes may not open: "
-                   "the server isn't stopped")
+    """Raises Stop if a server with the archives of this report may not fit into its memory."""
+    size, (limit, whose) = int(backup_file.TOTAL.search(text)[2]), memory_of(unit)
+    if size > limit * OPENS:
+        raise Stop(f"failed: memory: {whose} {limit} bytes, in which a store of {size} bytes may not open: the server "
+                   "isn't stopped")
 
 
 def seen(path):

@@ -21,10 +21,9 @@ class Full(Exception):
     """An add that isn't accepted, with the text of the reply."""
 
 
-def usual() -> int | None:
-    """The limit where none is asked for: a part of what this service's memory opens, or None without a limit of it."""
-    limit = store_size.memory()
-    return None if limit is None else int(ACCEPTED * store_size.opened_with(limit))
+def usual() -> int:
+    """The limit where none is asked for: a part of what this service's memory opens."""
+    return int(ACCEPTED * store_size.opened_with(store_size.memory()))
 
 
 class Limit:
@@ -38,7 +37,7 @@ class Limit:
 
     def check(self, size: int, is_add: bool = True) -> None:
         """Counts `size` bytes that come. Raises Full where there is no room for them."""
-        if self.memory is not None and (has := self.had()):
+        if has := self.had():
             self.check_memory("the server has", has, HAD)
             self.check_memory("the server and nixkeep-cache have", has + self.own(), TOGETHER)
         if self.most is None:

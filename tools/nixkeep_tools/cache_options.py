@@ -37,7 +37,7 @@ def parser():
         help="where clients are accepted, a port or a Unix socket [the sockets that systemd passes, or 127.0.0.1:8081]")
     add("--config", metavar="FILE", help="the configuration of the store: with --db that of the server, too")
     add("--most-bytes", type=int, metavar="N",
-        help="how large the file of --db may become [0.6 of what the memory of the service opens, or no limit]")
+        help="how large the file of --db may become [0.6 of what the memory of the service opens]")
     add("--most-bytes-each", type=int, metavar="N",
         help="how many bytes of the objects that are there one user may have added [no limit]")
     add("--sign-with", metavar="FILE",

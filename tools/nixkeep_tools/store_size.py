@@ -2,11 +2,13 @@
 import contextlib
 import os
 import struct
+from collections.abc import Iterator
 
 from . import store_file
 
-# What a process that opens a file needs besides the bytes of the file: the page cache, and the rest.
-BESIDES = (255 << 20) + 200_000_000
+# What a process that opens a file needs besides the bytes of the file: the page cache, which has all of a smaller file,
+# and the rest.
+CACHE, REST = 255 << 20, 200_000_000
 CGROUPS, OWN = "/sys/fs/cgroup", "/proc/self/cgroup"
 
 
@@ -37,18 +39,32 @@ def of_log(file):
     return None
 
 
-def memory() -> int | None:
-    """The bytes of memory that this service may use (`MemoryMax=`), or None without a limit."""
-    found = []
+def limits() -> Iterator[int]:
+    """Yields the limits of memory (`MemoryMax=`) of the control groups that this process is in, by either version of
+    control groups."""
+    with open(OWN, encoding="utf-8") as file:
+        for line in file:
+            _, controllers, own = line.rstrip("\n").split(":", 2)
+            if controllers and "memory" not in controllers.split(","):
+                continue
+            place, name = ("memory", "memory.limit_in_bytes") if controllers else ("", "memory.max")
+            own = own.rstrip("/")
+            # (a container sees its own group as the first one, "")
+            for at in (at for at in range(len(own) + 1) if own[at:at + 1] in ("/", "")):
+                with contextlib.suppress(OSError), open(f"{CGROUPS}/{place}{own[:at]}/{name}") as limit:
+                    yield from (int(it) for it in limit.read().split() if it.isdigit())
+
+
+def machine() -> int:
+    """The bytes of the machine's memory."""
+    return os.sysconf("SC_PHYS_PAGES") * os.sysconf("SC_PAGE_SIZE")
+
+
+def memory() -> int:
+    """The bytes of memory that this service may use: the least of its limits, or the machine's."""
     with contextlib.suppress(OSError):
-        with open(OWN, encoding="ascii") as file:
-            own = next((it[3:].strip() for it in file if it.startswith("0::")), "/").rstrip("/")
-        groups = [own[:at] for at in range(len(own) + 1) if own[at:at + 1] in ("/", "")]
-        # (a container sees its own group as the first one, "")
-        for group in groups:
-            with contextlib.suppress(FileNotFoundError), open(f"{CGROUPS}{group}/memory.max", encoding="ascii") as file:
-                found += [int(it) for it in file.read().split() if it.isdigit()]
-    return min(found, default=None)
+        return min([machine(), *limits()])
+    return machine()
 
 
 def resident(process: int | str = "self") -> int:
@@ -59,4 +75,5 @@ def resident(process: int | str = "self") -> int:
 
 def opened_with(limit: int) -> int:
     """The bytes of the largest file that a server opens with so much memory: docs/OPERATING.md, Growth."""
-    return max(0, limit - BESIDES)
+    left = max(0, limit - REST)
+    return max(min(left // 2, CACHE), left - CACHE)
