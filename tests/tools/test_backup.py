@@ -12,7 +12,9 @@ import json
 import os
 import re
 import shutil
+import signal
 import sqlite3
+import subprocess
 import time
 from pathlib import Path
 
@@ -219,6 +221,32 @@ def test_what_a_stopped_copy_has_left(store, good):
     fcntl.flock(opened, fcntl.LOCK_EX)
     fails(store.copy(), "another copy is being made", store, good)
     os.close(opened)
+
+
+@contextlib.contextmanager
+def at_work(words, is_begun, env=None):
+    """nixkeep-backup, once it has begun something."""
+    with subprocess.Popen([BACKUP, *words], stderr=subprocess.PIPE, text=True, env={**os.environ, **(env or {})}) as made:
+        while made.poll() is None and not is_begun():
+            time.sleep(0.05)
+        yield made
+
+
+def test_the_end_of_a_test(store, good):
+    """A test that is killed, as where memory runs out, and a copy that is told to end: each is in the state, and
+    leaves nothing."""
+    program = Path(store.folder, "program")
+    words = [*store.options("copy"), "--db", store.file, "--to", store.to, "--state", store.state, "--program", program]
+    reason = lambda: json.loads(Path(store.state).read_text())["reason"]
+    program.write_text("#!/bin/sh\nkill -9 $$\n")
+    program.chmod(0o755)
+    fails(backup(*words), "failed: test: status -9", store, good)
+    assert reason().startswith("failed: test: status -9")
+    program.write_text(f"#!/bin/sh\ntouch {store.folder}/begun\nexec sleep 100\n")
+    with at_work(words, Path(store.folder, "begun").exists) as running:
+        running.terminate()
+    assert running.returncode == 1 and reason() == "failed: copy: it was stopped by SIGTERM"
+    assert store.bytes_of_copies() == good
 
 
 def test_the_note_of_a_server_that_was_stopped(store, good):
@@ -646,6 +674,23 @@ def test_two_restores_at_once(store, restored):
     fails_with("another restore is running", restored(f"{store.to}/{store.copies()[0]}"))
     assert store.bytes() == before
     os.close(opened)
+
+
+@pytest.mark.parametrize("number", [signal.SIGHUP, signal.SIGTERM, signal.SIGINT])
+def test_a_restore_whose_terminal_is_lost(number, store, good, units):
+    """The units that it has stopped run again, and the store is as it was."""
+    units.set(*UNITS)
+    before, held = store.bytes(), units.folder / "held"
+    words = [*store.options("restore"), "--folder", store.folder, "red", f"{store.to}/{store.copies()[0]}"]
+    held.touch()
+    with at_work(words, lambda: units.notes.exists() and "stop" in units.notes.read_text(), units.env) as running:
+        running.send_signal(number)
+        time.sleep(0.5)
+        held.unlink()
+        line = running.stderr.read()
+    assert (running.returncode, line) == ((130, "") if number == signal.SIGINT else (
+        1, f"nixkeep-backup: failed: restore: it was stopped by {number.name}\n"))
+    assert all((units.folder / it).exists() for it in UNITS) and store.bytes() == before
 
 
 @pytest.mark.skipif(os.geteuid() != 0, reason="only root starts and stops units")

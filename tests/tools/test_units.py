@@ -38,13 +38,14 @@ ACCOUNT = {"DynamicUser": ["yes"], "User": ["store-%i"], "StateDirectoryMode": [
            "PrivateNetwork": ["yes"], "Type": ["notify"]}
 SETTINGS = {
     "nixkeep@.service": {**ACCOUNT, "CacheDirectoryMode": ["0700"], "Restart": ["always"],
-                         "LimitNOFILE": ["16384"]},
+                         "LimitNOFILE": ["16384"], "OOMPolicy": ["continue"]},
     "nixkeep@.socket": {"SocketUser": ["root"], "SocketGroup": ["nixkeep-%i"], "SocketMode": ["0660"],
                         "ListenStream": ["/run/nixkeep/%i.socket"]},
-    "nixkeep-backup@.service": ACCOUNT,
+    "nixkeep-backup@.service": {**ACCOUNT, "OOMPolicy": ["continue"]},
     "nixkeep-backup@.timer": {"Persistent": ["yes"]},
     "nixkeep-sweep@.service": {"DynamicUser": ["yes"], "User": ["sweep-%i"], "SupplementaryGroups": ["nixkeep-%i"],
-                               "UMask": ["0077"], "PrivateNetwork": ["yes"], "Type": ["oneshot"]},
+                               "UMask": ["0077"], "PrivateNetwork": ["yes"], "Type": ["oneshot"],
+                               "OOMPolicy": ["stop"]},
     "nixkeep-sweep@.timer": {"Persistent": ["yes"]},
 }
 DEBIAN = ["systemd", "systemd-sysv", "dbus", "adduser", "curl", "procps", "sqlite3", "python3", "python3-aiohttp",

@@ -5,7 +5,7 @@ import signal
 import time
 
 from . import backup_check, backup_fetch, backup_file, backup_folder, backup_restore, credentials, objects, paths
-from . import store_file, streams, version
+from . import stopping, store_file, streams, version
 from .count_of import count_of
 from .failures import FAILED, Stop, reason
 from .http_client import Place, Server
@@ -83,13 +83,14 @@ def add_restore(actions):
 
 
 def limit(seconds):
-    """Stops the run with a line once it takes that long."""
+    """Stops the run with a line once it takes that long, or is told to end: so it leaves no half of a copy."""
 
     def ring(*_):
         raise Stop(f"failed: time: it took more than {seconds} seconds")
 
     signal.signal(signal.SIGALRM, ring)
     signal.alarm(seconds)
+    stopping.by_signals("copy")
 
 
 def of_file(words, path):

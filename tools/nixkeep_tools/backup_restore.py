@@ -7,7 +7,7 @@ import shutil
 import stat
 import time
 
-from . import backup_file, explain_file, store_file
+from . import backup_file, explain_file, stopping, store_file
 from .count_of import count_of
 from .failures import Stop, reason
 
@@ -44,9 +44,10 @@ def stopped(name):
                 set_unit("stop", unit[it])
         yield
     finally:
-        for it in (SOCKET, SERVER, TIMER):
-            if ran[it]:
-                set_unit("start", unit[it])
+        with stopping.whole():
+            for it in (SOCKET, SERVER, TIMER):
+                if ran[it]:
+                    set_unit("start", unit[it])
 
 
 @contextlib.contextmanager
@@ -188,12 +189,13 @@ def put_from(source, names, folder):
     replaced = STORE in names and not is_folder(STORE, folder)
     try:
         fill(FRESH, folder, source)
-        os.mkdir(aside, 0o700, dir_fd=folder)
-        with opened(aside, folder) as moved:
-            move_aside(names, folder, moved)
-        name_copy(folder, replaced)
-        os.fsync(folder)
-    except OSError:
+        with stopping.whole():
+            os.mkdir(aside, 0o700, dir_fd=folder)
+            with opened(aside, folder) as moved:
+                move_aside(names, folder, moved)
+            name_copy(folder, replaced)
+            os.fsync(folder)
+    except (OSError, Stop, KeyboardInterrupt):
         with contextlib.suppress(OSError):
             os.unlink(FRESH, dir_fd=folder)
             os.rmdir(aside, dir_fd=folder)
@@ -214,6 +216,7 @@ def restore(words: argparse.Namespace) -> str:
         raise Stop(f"failed: copy: {words.copy}-wal: a copy is one file, without a log")
     count, size = backup_file.rows(words.copy)
     backup_file.explain(words.copy, config)
+    stopping.by_signals("restore")
     with alone(folder), stopped(words.name):
         aside = put(words.copy, folder)
     return f"restored {count_of(count, 'object')}, {size} bytes from {words.copy}; the files before are in {aside}"
