@@ -2,10 +2,12 @@
 import asyncio
 import contextlib
 import hashlib
+import http.client
 import os
 import random
 import signal
 import socket
+import sqlite3
 import subprocess
 import threading
 import time
@@ -194,6 +196,70 @@ def test_uploads_sweeps_collections_and_kills_at_once(team_of):
         is_there = [team("ann", "GET", f"/nar/{it[11:]}")[1] in archives
                     for it in team("ann", "GET", "/paths")[1].decode().split()]
         assert is_there and all(is_there), ("and each object is read", is_there)
+
+
+# ---- one reply to each request
+
+
+def asked(team, *targets):
+    """What comes to requests on one connection: each status and text."""
+    with contextlib.closing(http.client.HTTPConnection("red")) as connection, socket.socket(socket.AF_UNIX) as client:
+        client.connect(team.place)
+        connection.sock = client
+        found = []
+        for it in targets:
+            connection.request("GET", it, headers={"store-user": "ann"})
+            reply = connection.getresponse()
+            found.append((reply.status, reply.read().decode()))
+        return found
+
+
+def test_a_long_record_of_a_large_archive(rng, team_of, folder):
+    """It has what the pointer names, and whoever asks next on its connection gets a reply of their own."""
+    with contextlib.closing(sqlite3.connect(f"{folder}/store.db")) as conn, conn:
+        parts.put_tables(conn, 3)
+        named = [parts.put_text(conn, f"{at:03}{'n' * 200}", b"x") for at in range(280)]
+    with team_of() as team:
+        archive, path = archive_of(rng), some_path(rng, "wide")
+        lines = [("path", path), ("nar-hash", nar.nar_hash(archive)), *(("reference", it) for it in named)]
+        assert team("build", "POST", "/import", body(*lines, payload=archive))[0] == 200
+        (status, record), *others = asked(team, f"/info/{path[11:]}", "/who", f"/{path[11:43]}.narinfo")
+        assert status == 200 and len(record) > cache_http.LARGE
+        for text in (record, others[1][1]):
+            assert f"\nNarHash: {nar.nar_hash(archive)}\nNarSize: {len(archive)}\n" in text
+            assert f"\nReferences: {' '.join(sorted(named))}\n" in text
+        assert others[0] == (200, "class: allowed\nconnect: yes\n")
+        refused = team("ann", "GET", f"/info/{path[11:]}", b"x")
+        assert refused == (400, b"refused: 41 bad-body-head\n"), "as by the server"
+
+
+def test_no_reply_follows_one_that_has_begun(folder):
+    """The connection ends in its place."""
+    from aiohttp import web
+
+    async def answer(request):
+        begun = web.StreamResponse(headers={"content-length": "3"})
+        await begun.prepare(request)
+        await begun.write(b"all")
+        return cache_http.reply(503, "failed\n")
+
+    async def run():
+        made = web.Application(middlewares=[cache_http.alone])
+        made.router.add_get("/", answer)
+        made.on_response_prepare.append(cache_http.begins)
+        runner = web.AppRunner(made)
+        await runner.setup()
+        await web.UnixSite(runner, f"{folder}/one").start()
+        reader, writer = await asyncio.open_unix_connection(f"{folder}/one")
+        writer.write(2 * b"GET / HTTP/1.1\r\nhost: red\r\n\r\n")
+        try:
+            return await asyncio.wait_for(reader.read(), 30)
+        finally:
+            writer.close()
+            await runner.cleanup()
+
+    came = asyncio.run(run())
+    assert came.count(b"HTTP/1.1") <= 1 and b"failed" not in came
 
 
 # ---- what others need

@@ -16,7 +16,7 @@ from . import cache_metrics, cache_options, cache_origin, cache_signing, overvie
 from .cache_archives import Archives
 from .cache_ending import FINISH, Ending
 from .cache_blobs import Blobs
-from .cache_http import BODY, Answered, Sending, passed, reply, shown
+from .cache_http import BODY, Answered, Sending, alone, begins, passed, reply, shown
 from .cache_large import Large
 from .cache_names import Names
 from .cache_overview import Overviews
@@ -189,11 +189,12 @@ async def application(said, server, waiting, settings, signing, is_local):
     ending, admitted = Ending(), admission(server, fixed, is_local, said.monitor)
     parts, sessions, watched = parts_of(said, server, waiting, settings, signing, ending.begun)
     most = resource.getrlimit(resource.RLIMIT_NOFILE)[0] // (1 if fixed else PART)
-    middlewares = [ending.counted, watched.watching.observed, framed, failures(said.idle), admitted, fair(most)]
+    middlewares = [ending.counted, watched.watching.observed, alone, framed, failures(said.idle), admitted, fair(most)]
     # (a body is what came, as to the server: one that is unpacked ahead of its limits would fill the memory)
     made = web.Application(client_max_size=BODY, middlewares=middlewares, handler_args={"auto_decompress": False})
     made.router.add_route("*", "/{target:.*}", dispatched(parts))
     made.cleanup_ctx.extend([begun(server), expiring(waiting, sessions, watched.day)])
+    made.on_response_prepare.append(begins)
     made.on_shutdown.append(ending.begin)
     return made
 

@@ -2,6 +2,7 @@
 import asyncio
 import collections
 import contextlib
+import sys
 from collections.abc import AsyncIterator, Awaitable, Callable
 
 from aiohttp import web
@@ -50,6 +51,24 @@ def passed(answer: Reply, kind: str | None = None, keep: str = "no-store") -> we
     if answer.status != 200:
         return reply(answer.status, answer.text)
     return reply(200, answer.text, kind or answer.kind, keep)
+
+
+async def begins(request: web.Request, answer: web.StreamResponse) -> None:
+    """Remembers which reply to a request has begun."""
+    request["begun"] = answer
+
+
+@web.middleware
+async def alone(request: web.Request, handler: Handler) -> web.StreamResponse:
+    """A request has one reply. Where another one would follow, the connection ends: whoever asks next on it would get
+    that, who may be another user of a proxy."""
+    answer = await handler(request)
+    begun = request.get("begun", answer)
+    if begun is not answer and request.transport:
+        print(f"nixkeep-cache: {request.method} {request.raw_path[:300]!r}: its reply had begun, and {answer.status} "
+              "came", file=sys.stderr, flush=True)
+        request.transport.abort()
+    return begun
 
 
 def is_gone(request: web.Request) -> bool:

@@ -1,4 +1,5 @@
 """Objects with large archives, as nixkeep-cache takes and serves them: a pointer in the store, and a blob."""
+import functools
 import re
 import time
 from collections.abc import AsyncIterable, AsyncIterator
@@ -219,13 +220,23 @@ class Large:
 
     async def own(self, request: web.Request, kind: str, base: str) -> web.StreamResponse:
         """The store's own record and archive of a pointer are those of what it names."""
+        if kind == "info":
+            return await self.passing.request(request, functools.partial(self.own_record, request, base))
         answer = await self.passing.request(request)
-        if kind == "nar" and len(getattr(answer, "body", None) or b"") != pointers.SIZE or answer.status != 200:
+        # (a longer one has been sent)
+        if len(getattr(answer, "body", None) or b"") != pointers.SIZE or answer.status != 200:
             return answer
-        text, pointer = await self.pointers.at(request["caller"], base)
-        if not pointer:
-            return answer
-        return await self.blobs.send(request, pointer, "none") if kind == "nar" else reply(200, real(text, pointer))
+        _, pointer = await self.pointers.at(request["caller"], base)
+        return await self.blobs.send(request, pointer, "none") if pointer else answer
+
+    async def own_record(self, request, base, caller, given):
+        """The reply with a record, which may be long; None for a request with a body, which the store refuses."""
+        if given not in (b"", b"\n"):
+            return None
+        text, pointer = await self.pointers.at(caller, base)
+        answer, sending = reply(200, real(text, pointer) if pointer else text), self.passing.sending
+        await sending.room(request, answer)
+        return await sending.send(request, answer)
 
     async def uploaded(self, request: web.Request, name: str, base: str) -> web.StreamResponse | None:
         """The reply with the archive of a pointer as a client has uploaded it, or None for another object."""

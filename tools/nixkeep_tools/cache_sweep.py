@@ -50,7 +50,7 @@ class Sweep:
         given = await body(request, 1000, self.idle)
         match = re.fullmatch(rb"(grace: (\d{1,12})\n)?(dry-run: true\n)?\n?", given if given is not None else b"?")
         if not match:
-            return reply(400, "refused: 41 bad-body\n")
+            return reply(400, "refused: 41 bad-body-head\n")
         grace, answer = max(self.grace, int(match[2] or 0)), web.StreamResponse(headers={"content-type": "text/plain"})
         # (users take turns, and nothing is done for those who have left)
         async with self.turns.turn(request["caller"].user):
