@@ -11,6 +11,7 @@ import subprocess
 import threading
 import time
 import types
+from pathlib import Path
 
 import pytest
 
@@ -21,7 +22,8 @@ from nixkeep_tools import cache_changes, cache_http, cache_limit, cache_listings
 from nixkeep_tools import cache_overview, cache_passing, cache_room, cache_server, cache_uploads, cache_watched
 from nixkeep_tools import overview_day, overview_source, store_file
 from parts import body
-from tests.tools.cached import ask
+from tests.tools import large
+from tests.tools.cached import ask, file_name, record
 
 pytestmark = pytest.mark.needs("curl", "python3-aiohttp")
 # Runs Python with some words, and prints the KiB of memory that it has had.
@@ -229,7 +231,7 @@ def test_heads_of_large_imports_have_room(folder):
             denied.append(answered.reply.status)
 
     async def run():
-        large.passing = types.SimpleNamespace(coming=cache_room.Room(3 * cache_large.HEAD), idle=60)
+        large.passing = types.SimpleNamespace(coming=cache_room.Room(6 * cache_large.HEAD), idle=60)
         tasks = [asyncio.ensure_future(ask(it)) for it in ["ann"] * 5 + ["build"] * 9]
         await asyncio.sleep(0.2)
         for it in tasks:
@@ -241,6 +243,95 @@ def test_heads_of_large_imports_have_room(folder):
     finally:
         cache_large.class_of = kept
     assert (denied, len(reading)) == ([403] * 5, 3)
+
+
+def test_heads_of_uploads_that_wait_have_room():
+    """A head is in memory until its upload is done, which may wait for others."""
+    head, going_on = b"path: it\n" + b"reference: x\n" * 80_000 + b"\n", []
+
+    class Request(dict):
+        content_length, method, transport = 30_000_000, "POST", None
+
+        def __init__(self, user):
+            super().__init__(caller=cache_server.Caller(user, None))
+            self.left = [head + b"x"]
+            self.content = types.SimpleNamespace(readany=self.readany)
+
+        async def readany(self):
+            return self.left.pop()
+
+    large = cache_large.Large(None, types.SimpleNamespace(server=None), 0, None, "/nix/store")
+
+    async def waits(caller, *_):
+        going_on.append(caller.user)
+        await asyncio.sleep(60)
+
+    async def trusts(_):
+        pass
+
+    async def run():
+        large.passing = types.SimpleNamespace(coming=cache_room.Room(8 * cache_large.HEAD), idle=60)
+        large.import_pieces, large.demand_trust = waits, trusts
+        tasks = [asyncio.ensure_future(large.import_(Request(it))) for it in ["ann"] * 20 + ["bob"]]
+        await asyncio.sleep(0.5)
+        for it in tasks:
+            it.cancel()
+
+    asyncio.run(run())
+    assert (going_on.count("ann"), going_on.count("bob")) == (4, 1)
+
+
+def test_a_user_leaves_room_for_others():
+    """What is at work for a user, and waits, has half of the room that others leave. A user's own clients that don't
+    move make room in that half."""
+    aborted = []
+
+    class Request(dict):
+        def __init__(self, user):
+            super().__init__(caller=cache_server.Caller(user, None))
+            self.transport = types.SimpleNamespace(abort=lambda: aborted.append(user))
+
+    async def run():
+        room, counts = cache_room.Room(8), []
+
+        async def holds(user, is_safe):
+            async with room.taken(Request(user), 1, is_safe):
+                await asyncio.sleep(60)
+
+        tasks = []
+        for user, is_safe in (("ann", True), ("bob", False), ("carol", True), ("dora", True)):
+            tasks += [asyncio.ensure_future(holds(user, is_safe)) for _ in range(9)]
+            await asyncio.sleep(0.05)
+            counts.append(sum(it.user == user for it in room.held))
+        for it in room.held:
+            it.began = it.since = it.since - 60
+        await asyncio.sleep(1.2 * cache_room.LOOK)
+        for it in tasks:
+            it.cancel()
+        return counts
+
+    assert asyncio.run(run()) == [4, 2, 1, 1]
+    assert {*aborted} == {"bob"}
+
+
+def test_records_of_an_archive_that_waits(program, folder):
+    """Many records of one archive, which would become a blob, don't have it in memory many times."""
+    given = nar.archive(random.Random(4).randbytes(16_700_000))
+    with large.Team(program, folder, "--large-from", "16777216") as team:
+        assert team.put(given, "ann")[0] == 201
+        path, name = "/nix/store/" + "1" * 32 + "-it", file_name(given)
+        text = record(path, given, name).replace(b"NarSize: ", b"NarSize: 9")
+        head = f"PUT /{path[11:43]}.narinfo HTTP/1.1\r\nhost: red\r\nstore-user: ann\r\n"
+        head += f"content-length: {len(text)}\r\n\r\n"
+        with contextlib.ExitStack() as held:
+            clients = [held.enter_context(socket.socket(socket.AF_UNIX)) for _ in range(30)]
+            for it in clients:
+                it.connect(team.place)
+            for it in clients:
+                it.sendall(head.encode() + text)
+            assert {it.recv(100).split(b" ")[1] for it in clients} == {b"403"}
+        status = Path(f"/proc/{team.running.pid}/status").read_text()
+        assert int(re.search(r"VmHWM:\s*(\d+)", status)[1]) < 200_000, "KiB"
 
 
 def test_long_records_are_read_in_a_thread():

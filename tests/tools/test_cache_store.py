@@ -393,6 +393,33 @@ def test_paths_kept_in_turns(folder):
     assert exchanges[3] == kept, "another user who asks for many makes none forgotten"
 
 
+def test_paths_without_an_end_before_a_deletion(folder):
+    """Whoever asks for ever more paths meanwhile keeps the server busy for no longer than for a part of them, and those
+    of another user are kept first."""
+    exchanges = []
+
+    class Server:
+        async def asks(self, requests, first=lambda: ()):
+            ask_for_more()
+            exchanges.append([(it.caller.user, it.target) for it in (*first(), *requests)])
+            return exchanges[-1]
+
+    made, ann, bob = cache_sessions.Sessions(Server(), f"{folder}/more", 3600), *(
+        cache_sessions.Caller(it, None) for it in ("ann", "bob"))
+
+    def ask_for_more():
+        for at in range(200):
+            made.asked(ann, f"path{len(exchanges)}-{at}")
+
+    for it in (ann, bob):
+        made.asked(it, None)
+    ask_for_more()
+    made.asked(bob, "bob's")
+    asyncio.run(made.before(cache_sessions.Request(ann, "POST", "/collect")))
+    assert max(map(len, exchanges)) <= 101 and exchanges[-1][-1] == ("ann", "/collect")
+    assert ("bob", cache_sessions.target("bob")) in exchanges[0]
+
+
 @contextlib.asynccontextmanager
 async def serving(answer, place):
     """Serves requests by a function at a socket."""

@@ -121,7 +121,7 @@ class Large:
             raise Bad(f"NarSize: {size[:100]}: a number is meant")
         if name not in waiting.files or int(size) <= self.least:
             return False
-        await self.take(caller, name, again(waiting.read(name)))
+        await self.take(caller, name, waiting.pieces(name))
         return True
 
     async def recorded(self, caller: Caller, name: str, record: dict[str, str], head: bytes) -> web.Response:
@@ -160,12 +160,15 @@ class Large:
             return await self.passing.request(request, self.import_whole)
         await self.demand_trust(request["caller"])
         given = pieces(request, self.passing.idle)
+        # (the head is in memory until the last piece, and an upload may wait for others)
         async with self.passing.coming.taken(request, HEAD) as held:
             head, first = await head_of(given, held)
-        if head is None:
-            return reply(400, "refused: 38 too-large\n")
-        cache_changes.note(request, head)
-        return await self.import_pieces(request["caller"], head, again(first, given), request.content_length)
+            if head is None:
+                return reply(400, "refused: 38 too-large\n")
+            self.passing.coming.resize(held, len(head) + len(first))
+            held.is_safe = True
+            cache_changes.note(request, head)
+            return await self.import_pieces(request["caller"], head, again(first, given), request.content_length)
 
     async def import_whole(self, caller, given):
         """The reply to an import with a large archive, or None for another one, which the store does. Raises

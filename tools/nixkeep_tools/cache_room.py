@@ -30,10 +30,11 @@ class Held:
 
 
 class Room:
-    """At most `most` bytes. Where there are none left, the user who has least gets the next that are given back. And a
-    client loses its connection: one that has moved nothing for GRACE seconds, or one of the user who has most, if that
-    is more than what the waiting one would have. So neither clients that don't move, nor the many slow ones of a user,
-    hold up other users."""
+    """At most `most` bytes. One user has at most half of those that others leave, or what one client needs. Where there
+    are none left, the user who has least gets the next that are given back. And a client loses its connection: one that
+    has moved nothing for GRACE seconds, or one of the user who has most, if that is more than what the waiting one
+    would have. So neither clients that don't move, nor the many slow ones of a user, nor what is at work for a user and
+    waits, hold up other users."""
 
     def __init__(self, most: int):
         self.most, self.bytes, self.waiting, self.held = most, 0, [], []
@@ -92,8 +93,8 @@ class Room:
     def grant(self) -> None:
         """Gives room to those that wait, as far as there is some."""
         used = self.used(self.held)
-        while self.waiting:
-            first = min(self.waiting, key=lambda it: used[it.user])
+        while found := [it for it in self.waiting if self.is_within_share(it, used)]:
+            first = min(found, key=lambda it: used[it.user])
             if self.bytes and self.bytes + first.size > self.most:
                 return
             self.waiting.remove(first)
@@ -103,13 +104,20 @@ class Room:
             first.began = first.since = asyncio.get_running_loop().time()
             first.granted.set()
 
+    def is_within_share(self, wanted, used):
+        """Whether a user may have what is wanted, too, while users have so much."""
+        has = used[wanted.user]
+        return not has or 2 * (has + wanted.size) <= self.most - (used.total() - has)
+
     def evict(self, wanted):
         """Ends connections until there will be room for what is wanted, where that is just."""
-        while True:
-            there = [it for it in self.held if not it.is_lost]
-            if not there or sum(it.size for it in there) + wanted.size <= self.most:
+        while there := [it for it in self.held if not it.is_lost]:
+            used = self.used(there)
+            is_beyond = not self.is_within_share(wanted, used)
+            if not is_beyond and used.total() + wanted.size <= self.most:
                 return
-            lost = self.victim(wanted, there)
+            # (only the user's own ones make room in the user's share)
+            lost = self.victim(wanted, [it for it in there if it.user == wanted.user] if is_beyond else there)
             if not lost:
                 return
             lost.abort()

@@ -64,10 +64,12 @@ class Sessions:
             del self.asked_at[it]
 
     def remembered(self):
-        """What a deletion has to leave and no session keeps yet, each with its caller."""
+        """What a deletion has to leave and no session keeps yet, each with its caller. The first ones are of all
+        callers."""
         self.uploading = {caller: since for caller, since in self.uploading.items() if self.is_fresh(since)}
-        return [(caller, base) for caller, found in self.asked_at.items() if caller in self.uploading
-                for base, since in found.items() if self.is_fresh(since)]
+        found = [(at, caller, base) for caller, asked in self.asked_at.items() if caller in self.uploading
+                 for at, (base, since) in enumerate(asked.items()) if self.is_fresh(since)]
+        return [(caller, base) for _, caller, base in sorted(found, key=lambda it: it[0])]
 
     def kept(self, keys: Iterable[tuple[Caller, str]]) -> None:
         for caller, base in keys:
@@ -75,7 +77,8 @@ class Sessions:
 
     async def before(self, deletion: Request) -> Reply:
         """The reply to a deletion, before which sessions keep what is remembered. Others get their turns in between,
-        but for the last of it, which goes to the server with the deletion."""
+        but for the last of it, which goes to the server with the deletion. That is a part at most: of whoever asks for
+        ever more paths meanwhile some aren't kept."""
         for _ in range(MOST // TOGETHER):
             keys = self.remembered()[:TOGETHER]
             if len(keys) < TOGETHER:
@@ -85,7 +88,7 @@ class Sessions:
         last = []
 
         def first():
-            last[:] = self.remembered()
+            last[:] = self.remembered()[:TOGETHER]
             return [self.keeping(*it) for it in last]
 
         answer = (await self.server.asks([deletion], first))[-1]

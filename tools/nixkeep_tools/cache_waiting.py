@@ -4,12 +4,14 @@ import contextlib
 import hashlib
 import os
 import time
-from collections.abc import AsyncIterable
+from collections.abc import AsyncIterable, AsyncIterator
+from typing import BinaryIO
 
 from . import cache_records, nar, paths
 
-# The longest file of one: an archive at its limit, and what a compression may add to one that doesn't get smaller.
-LONGEST = nar.LIMIT + (1 << 20)
+# The longest file of one: an archive at its limit, and what a compression may add to one that doesn't get smaller. And
+# the bytes of one that are read at once, where few of it may be in memory.
+LONGEST, PIECE = nar.LIMIT + (1 << 20), 1 << 20
 
 # `bytes` is its length, `since` when it came, `owner` the user who sent it. One that `is_used` is in the store. It
 # stays while there is room, since a client sends an archive that two of its paths share only once. On the disk it has
@@ -117,14 +119,24 @@ class Waiting:
         if key not in self.files:
             raise cache_records.Bad(f"nar/{name} took longer than {self.seconds:.0f} seconds")
 
-    def read(self, name: str) -> bytes:
-        """The bytes of a file that waits. Raises Bad."""
+    def opened(self, name: str) -> BinaryIO:
+        """A file that waits. Raises Bad."""
         if name not in self.files:
             raise cache_records.Bad(
                 f"nar/{name} isn't here: an archive comes first, and its record within {self.seconds:.0f} seconds"
             )
-        with open(self.file(name), "rb") as file:
+        return open(self.file(name), "rb")
+
+    def read(self, name: str) -> bytes:
+        """The bytes of a file that waits. Raises Bad."""
+        with self.opened(name) as file:
             return file.read()
+
+    async def pieces(self, name: str) -> AsyncIterator[bytes]:
+        """Yields the bytes of a file that waits, which is opened for the first piece. Raises Bad."""
+        with self.opened(name) as file:
+            while piece := file.read(PIECE):
+                yield piece
 
     def use(self, name: str) -> None:
         """Says of a file that it is in the store."""
