@@ -17,10 +17,10 @@ import pytest
 
 import parts
 from nixkeep_dev.testing import nar
-from nixkeep_tools import blob_packing, cache_ending, cache_large, cache_records, cache_shares, cache_sweep, drv
+from nixkeep_tools import blob_packing, cache, cache_ending, cache_large, cache_records, cache_shares, cache_sweep, drv
 from nixkeep_tools import cache_changes, cache_http, cache_limit, cache_listings, cache_metrics, cache_names
 from nixkeep_tools import cache_overview, cache_passing, cache_room, cache_server, cache_uploads, cache_watched
-from nixkeep_tools import overview_day, overview_source, store_file
+from nixkeep_tools import overview_day, overview_source, pointers, store_file
 from parts import body
 from tests.tools import large
 from tests.tools.cached import ask, file_name, record
@@ -458,11 +458,76 @@ def test_pointers_are_listed_once_at_a_time():
 
     async def ask():
         large = cache_large.Large(None, Lookup(), 0, None, "/nix/store")
+        large.passing = types.SimpleNamespace(sending=cache_http.Sending(1 << 20, 60))
         names = ["ann", "bob"] * 5
         return await asyncio.gather(*(large.listing(Asked(caller=cache_server.Caller(it, None))) for it in names))
 
     assert [it.status for it in asyncio.run(ask())] == [200] * 10
     assert most == [1] * 10
+
+
+def test_a_long_listing_of_pointers_has_room(monkeypatch):
+    """As other long replies have it, since a client may take it slowly."""
+    pointer, had = pointers.Pointer("/nix/store/x", bytes(32), 1, bytes(32), 1), []
+
+    class Lookup:
+        server = None
+
+        async def listed(self, _):
+            return []
+
+        async def among(self, *_):
+            return {str(at): pointer for at in range(1000)}
+
+    class Asked(dict):
+        transport = types.SimpleNamespace(is_closing=lambda: False)
+
+    class Sending(cache_http.Sending):
+        async def send(self, request, answer):
+            had.append((self.bytes, len(answer.body)))
+            return answer
+
+    large = cache_large.Large(None, Lookup(), 0, None, "/nix/store")
+    large.passing = types.SimpleNamespace(sending=Sending(1 << 20, 60))
+    asyncio.run(large.listing(Asked(caller=cache_server.Caller("ann", None))))
+    assert had[0][0] == had[0][1] > cache_http.LARGE
+
+
+def test_a_large_import_is_in_memory_once():
+    """It becomes a blob piece by piece, and what isn't large is left to the store."""
+    archive, came = nar.archive(bytes(range(256)) * 4_000), []
+
+    async def import_pieces(_, head, given, size):
+        came.append((head, [it async for it in given], size))
+        return "done"
+
+    async def run(least):
+        large = cache_large.Large(None, types.SimpleNamespace(server=None), least, None, "/nix/store")
+        large.import_pieces = import_pieces
+        return await large.import_whole("ann", b"path: it\n\n" + archive)
+
+    assert (asyncio.run(run(len(archive))), came) == (None, [])
+    assert asyncio.run(run(len(archive) - 1)) == "done"
+    (head, found, size), = came
+    assert (head, b"".join(found), size) == (b"path: it\n\n", archive, 10 + len(archive))
+    assert max(map(len, found)) == cache_http.PIECE
+
+
+def test_a_thread_that_reads_something_long_leaves_others_their_turns(monkeypatch):
+    """It would take five milliseconds of each step of all others."""
+    said = []
+    monkeypatch.setattr("sys.setswitchinterval", said.append)
+    with pytest.raises(SystemExit):
+        cache.main(["--user", "ann", "--config", "/nowhere"])
+    assert said == [0.0005]
+
+
+def test_a_sweep_that_nobody_reads_ends():
+    """Others wait for their turns."""
+    swept = cache_sweep.Sweep(None, None, None, 0, 0.05, "none")
+    answer = types.SimpleNamespace(write=lambda _: asyncio.sleep(60))
+    with pytest.raises(TimeoutError):
+        asyncio.run(swept.say({}, answer, "line"))
 
 
 def test_the_page_of_the_last_day_is_made_once_for_many(folder, monkeypatch):

@@ -38,6 +38,9 @@ from .notify import notify
 ROOM = 256 << 20
 # The part of the files that a process may open which one user's requests may have: each has a connection.
 PART = 4
+# The seconds after which a thread that reads something long leaves others their turn: clients wait for the first thread
+# at each step. Python's own are ten times as many.
+SWITCH = 0.0005
 
 
 def caller(request, fixed):
@@ -250,6 +253,7 @@ def main(words: list[str] | None = None) -> None:
     if words[:1] in (["sweep"], ["verify"]):
         return blobs_command.main(words)
     said = cache_options.read(words)
+    sys.setswitchinterval(SWITCH)
     try:
         settings = overview_source.settings(said.config)
         waiting = Waiting(said.waiting, said.waiting_count, said.waiting_bytes, said.waiting_seconds)

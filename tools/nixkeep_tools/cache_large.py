@@ -10,7 +10,7 @@ from . import blob_reading, cache_changes, cache_records, paths, pointers
 from .blob_packing import Packed
 from .cache_archives import BYTES, DIGITS
 from .cache_blobs import Blobs, missing
-from .cache_http import BODY, READ, Answered, Route, is_gone, passed, pieces, reply
+from .cache_http import BODY, PIECE, READ, Answered, Route, is_gone, passed, pieces, reply
 from .cache_pointers import Pointers
 from .cache_records import Bad
 from .cache_room import Held
@@ -173,10 +173,14 @@ class Large:
     async def import_whole(self, caller, given):
         """The reply to an import with a large archive, or None for another one, which the store does. Raises
         Answered."""
-        head, end, archive = given.partition(b"\n\n")
-        if len(archive) > self.least:
-            return await self.import_pieces(caller, head + end, again(archive), len(given))
-        self.refuse_pointer(said(head, "ca"), said(head, "path"), archive)
+        end = given.find(b"\n\n") + 2
+        head, size = given[:end], len(given) - end
+        # (20 MB are in memory once)
+        if end > 1 and size > self.least:
+            parts = (given[at : at + PIECE] for at in range(end, len(given), PIECE))
+            return await self.import_pieces(caller, head, coming(parts), len(given))
+        if end > 1 and size == pointers.SIZE:
+            self.refuse_pointer(said(head, "ca"), said(head, "path"), given[end:])
         return None
 
     def refuse_pointer(self, address: str | bool, path: str, archive: bytes) -> None:
@@ -254,7 +258,7 @@ class Large:
         async with self.blobs.dear.taken(request["caller"].user):
             return await self.blobs.streamed(request, blob_reading.as_xz(given), answer, blob)
 
-    async def listing(self, request: web.Request) -> web.Response:
+    async def listing(self, request: web.Request) -> web.StreamResponse:
         """All pointers, a line each: the path, and the hashes and sizes of the archive and of its file."""
         caller = request["caller"]
         # (one is made at a time, and users take turns: each has the names of all objects in memory)
@@ -264,7 +268,9 @@ class Large:
             found = await self.pointers.among(caller, await self.pointers.listed(caller))
         lines = [f"{it.path} {paths.nar_hash(it.nar_hash)} {it.nar_size} {paths.nar_hash(it.file_hash)} {it.file_size}"
                  for _, it in sorted(found.items())]
-        return reply(200, "".join(f"{it}\n" for it in lines))
+        answer, sending = reply(200, "".join(f"{it}\n" for it in lines)), self.passing.sending
+        await sending.room(request, answer)
+        return await sending.send(request, answer)
 
 
 def real(text, pointer, base=None, form="none"):
@@ -277,13 +283,18 @@ def real(text, pointer, base=None, form="none"):
     return re.sub(r"^(\w+): (.*)$", put, text.decode(), flags=re.M).encode()
 
 
-async def again(first, given=None):
+async def again(first, given):
     """Yields what was read ahead, and the rest."""
     if first:
         yield first
-    if given:
-        async for piece in given:
-            yield piece
+    async for piece in given:
+        yield piece
+
+
+async def coming(given):
+    """Yields pieces that are there."""
+    for piece in given:
+        yield piece
 
 
 async def head_of(given: AsyncIterator[bytes], held: Held | None = None) -> tuple[bytes | None, bytes]:

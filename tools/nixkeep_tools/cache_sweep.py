@@ -12,7 +12,7 @@ from . import paths
 from .backup_restore import ASIDE
 from .blobs import Blob, Failed
 from .cache_blobs import Blobs, abort, say
-from .cache_http import Route, body, is_gone, reply
+from .cache_http import Route, body, is_gone, of_client, reply
 from .cache_pointers import Pointers
 from .cache_server import Caller
 from .cache_shares import Shares
@@ -60,15 +60,21 @@ class Sweep:
             first = await anext(lines)
             await answer.prepare(request)
             try:
-                await answer.write(f"{first}\n".encode())
+                await self.say(request, answer, first)
                 async for line in lines:
-                    await answer.write(f"{line}\n".encode())
+                    await self.say(request, answer, line)
                 await answer.write_eof()
             except BaseException:
                 # (no other reply can follow one that has begun)
                 abort(request.transport)
                 raise
         return answer
+
+    async def say(self, request, answer, line):
+        """Writes a line to a reply. A client that takes nothing loses its connection, since others wait for their
+        turns."""
+        async with of_client(request, self.idle):
+            await answer.write(f"{line}\n".encode())
 
     async def lines(self, caller: Caller, grace: int, is_dry: bool) -> AsyncIterator[str]:
         """Sweeps, and yields a line for each deletion, for each one that fails, and a summary. Raises Denied."""
@@ -79,12 +85,13 @@ class Sweep:
         named = {paths.base32(it.nar_hash) for it in (await self.pointers.among(caller, listed)).values()}
         asides = self.asides()
         left = [it for it in there if it.since < before and it.name not in named and not asides]
+        known = {*listed}
         for it in asides:
             failed += 1
             yield f"failed {it}: a restore has left this folder, which may name any blob: delete it first"
         for blob in left:
             try:
-                if is_dry or await self.delete(caller, blob, before, {*listed}):
+                if is_dry or await self.delete(caller, blob, before, known):
                     count, size = count + 1, size + blob.size
                     gone.add(blob.name)
                     yield f"{'would delete' if is_dry else 'deleted'} {blob.name} {blob.size}"
