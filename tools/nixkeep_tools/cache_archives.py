@@ -6,6 +6,7 @@ from typing import TYPE_CHECKING
 from aiohttp import web
 
 from . import cache_encoding, cache_records, pointers
+from .cache_held import Held
 from .cache_http import READ, Route, Sending, passed, reply
 from .cache_names import Names
 from .cache_server import Request, Server
@@ -59,7 +60,7 @@ class Archives:
                  signing: Signing, sending: Sending, store: str, large: "Large | None" = None):
         self.server, self.names, self.stored, self.waiting = server, names, stored, waiting
         self.sessions, self.signing, self.sending, self.store = sessions, signing, sending, store
-        self.large, self.packing = large, Turns()
+        self.large, self.packing, self.held = large, Turns(), Held(server, signing)
 
     def routes(self) -> list[Route]:
         handlers = [(INFO, self.info), (RECORD, self.record), (FILE, self.file), (ARCHIVE, self.archive)]
@@ -80,6 +81,10 @@ class Archives:
             self.sessions.asked(caller, base)
         if not base:
             return reply(404, "no such path\n")
+        # (by HEAD a client learns what it has to upload, which the server says)
+        if request.method == "GET" and (text := self.held.text(base)):
+            return reply(200, text, "text/x-nix-narinfo", MINUTE)
+        now = self.held.now()
         answer = await self.server.ask(caller, "GET", f"/info/{base}")
         if answer.status != 200:
             return passed(answer)
@@ -89,8 +94,9 @@ class Archives:
         if text:
             return reply(200, self.signing.signed(text), "text/x-nix-narinfo", MINUTE, vary="user-agent")
         url = f"URL: nar/{hash_of(answer.text)}/{base}".encode()
-        text = re.sub(rb"^URL: .*$", lambda _: url, answer.text, count=1, flags=re.M)
-        return reply(200, self.signing.signed(text), "text/x-nix-narinfo", MINUTE)
+        text = self.signing.signed(re.sub(rb"^URL: .*$", lambda _: url, answer.text, count=1, flags=re.M))
+        self.held.hold(base, text, now)
+        return reply(200, text, "text/x-nix-narinfo", MINUTE)
 
     async def archive(self, request: web.Request, digest: str, base: str) -> web.StreamResponse:
         """An archive, if the object has this hash now. A cache that has it asks by `if-none-match`."""

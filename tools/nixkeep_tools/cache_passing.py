@@ -10,14 +10,13 @@ from .cache_limit import Limit
 from .cache_listings import Listings
 from .cache_names import Names
 from .cache_room import Room
-from .cache_server import Caller, Reply, Request, Server
+from .cache_server import DELETES, Caller, Reply, Request, Server
 from .cache_sessions import Sessions, target as session_of
 from .cache_shares import Shares
 from .cache_turns import Turns
 
 TARGET, METHOD, ANY = re.compile(r"/[!-~]*"), re.compile(r"[A-Z]{1,16}"), re.compile(r".*", re.S)
 ADDS = ("/text", "/source", "/import")
-DELETES = ("/collect", "/delete")
 # What is answered with much: archives and their listings, and those of all of the store, which may have hundreds of MB.
 MUCH, ALL = re.compile(r"/(nar|ls)/.*"), re.compile(r"/(paths|live|dead|roots)")
 # The bytes of large bodies that are in memory.

@@ -25,6 +25,10 @@ Reply = collections.namedtuple("Reply", "status kind text")
 
 # Requests that may be sent once more: they change nothing, or nothing further the second time.
 REPEATED = re.compile(r"GET .*|POST /(text|source|import|temp/[^/]+/[0-9]+)")
+# The targets of requests that delete objects.
+DELETES = ("/collect", "/delete")
+# The least status of a reply that says of no object whether it is there.
+FAILED = 500
 # The bytes of a reply that are read ahead. A head is much shorter.
 AHEAD = 1 << 20
 # What a connection that ends, or isn't the server's, raises.
@@ -109,9 +113,16 @@ class Server:
         self.lost = -math.inf
         # Each connection may reach another server, over another file: what was learnt by an earlier one is void.
         self.connections, self.denials = 0, {}
+        # Whether a deletion is on its way, and how often a reply of the server voided what was learnt of objects.
+        self.is_deleting, self.voided = False, 0
 
     def is_open(self) -> bool:
-        return bool(self.writer) and not self.reader.at_eof()
+        return bool(self.writer) and not (self.reader.at_eof() or self.writer.is_closing())
+
+    def age(self) -> tuple[int, int] | None:
+        """What was learnt of an object is good while this is the same: each change of the store passes here, since a
+        server has one connection at a time. None where nothing is known."""
+        return (self.connections, self.voided) if self.is_open() and not self.is_deleting else None
 
     async def ask(self, caller: Caller, method: str, target: str, body: bytes = b"") -> Reply:
         """The reply to a request. Raises Unreachable."""
@@ -131,6 +142,7 @@ class Server:
             while True:
                 await self.connect(came)
                 messages = [message(it) for it in (*first(), *requests)]
+                self.is_deleting = any(it.method == "POST" and it.target in DELETES for it in requests)
                 try:
                     async with asyncio.timeout(self.longest):
                         return await self.sent(messages)
@@ -144,6 +156,9 @@ class Server:
                 except BaseException:
                     self.close()
                     raise
+                finally:
+                    self.voided += self.is_deleting
+                    self.is_deleting = False
 
     async def gets(self, caller: Caller, route: str, bases: list[str]) -> AsyncIterator[tuple[str, Reply]]:
         """Yields many base names, each with the reply to a GET by that route. Few replies are in memory, and other
@@ -160,6 +175,7 @@ class Server:
         found, ends = [], False
         for _ in messages:
             reply, ends = await read_reply(self.reader)
+            self.voided += reply.status >= FAILED
             found.append(reply)
         if ends:
             self.close()
@@ -173,7 +189,7 @@ class Server:
         if self.closing:
             self.closing.cancel()
         # (the end of an idle connection is seen before anything is sent on it)
-        if self.writer and (self.reader.at_eof() or self.writer.is_closing()):
+        if self.writer and not self.is_open():
             self.close()
         if not self.writer:
             left = max(came, self.lost) + self.patience - asyncio.get_running_loop().time()
@@ -205,7 +221,7 @@ class Server:
     async def denial(self, caller: Caller) -> Reply | None:
         """The reply that denies this caller to connect, or None. A server reads its configuration once, so one answer
         is good as long as the connection."""
-        if caller not in self.denials or not self.writer or self.reader.at_eof():
+        if caller not in self.denials or not self.is_open():
             # (a target without a route: whoever may connect gets 404)
             reply = await self.ask(caller, "GET", "/")
             if reply.status not in (403, 404):

@@ -123,6 +123,8 @@ class Signing:
 
     def __init__(self, key: Key | None, trusted: dict, file: str, store: str):
         self.key, self.trusted, self.store, self.conn = key, trusted, store, None
+        # How often others were kept, or some of them no more.
+        self.changes = 0
         if trusted:
             table = "signature (base TEXT, digest BLOB, text TEXT, PRIMARY KEY (base, digest, text)) STRICT"
             self.conn = cache_lists.opened(file, table)
@@ -155,6 +157,7 @@ class Signing:
                 if self.is_good(name, message, it):
                     # (in the one form of its bytes, or it could be kept sixteen times)
                     kept = written(*read_form(it))
+                    self.changes += 1
                     cache_lists.add(self.conn, "INSERT OR IGNORE INTO signature VALUES (?, ?, ?)", (*row, kept))
 
     def is_good(self, name: str, message: bytes, text: str) -> bool:
@@ -176,6 +179,7 @@ class Signing:
             self.drop([it for (it,) in self.conn.execute("SELECT DISTINCT base FROM signature") if it not in there])
 
     def drop(self, bases: Iterable[str]) -> None:
+        self.changes += 1
         cache_lists.delete(self.conn, "DELETE FROM signature WHERE base = ?", [(it,) for it in bases])
 
 

@@ -1,0 +1,47 @@
+"""Records that are in memory, so that the server isn't asked for them again."""
+import collections
+
+from .cache_server import Server
+from .cache_signing import Signing
+
+# The bytes of the texts that are held, and what each has besides.
+MOST, EACH = 32 << 20, 1000
+
+
+class Held:
+    """Texts of records as clients get them, by base names. They are good while the server says that none has changed
+    (`Server.age`), and while the same signatures are kept. Those that were asked for last are held."""
+
+    def __init__(self, server: Server, signing: Signing, most: int = MOST):
+        self.server, self.signing, self.most = server, signing, most
+        self.texts, self.size, self.of = collections.OrderedDict(), 0, None
+
+    def now(self) -> tuple[int, int] | None:
+        """What a record is good for that the server is asked for from now on; None where that isn't known."""
+        age = self.server.age()
+        return None if age is None else (age, self.signing.changes)
+
+    def text(self, base: str) -> bytes | None:
+        """The text of a record, or None where the server has to be asked."""
+        now = self.now()
+        if now is None or now != self.of:
+            return None
+        if text := self.texts.get(base):
+            self.texts.move_to_end(base)
+        return text
+
+    def hold(self, base: str, text: bytes, asked: tuple[int, int] | None) -> None:
+        """Holds a record for which the server was asked when `now` gave `asked`."""
+        if asked is None or asked != self.now():
+            return
+        if self.of != asked:
+            self.texts.clear()
+            self.of, self.size = asked, 0
+        self.size += len(text) + EACH - self.size_of(base)
+        self.texts[base] = text
+        while self.size > self.most:
+            self.size -= self.size_of(next(iter(self.texts)))
+            self.texts.popitem(last=False)
+
+    def size_of(self, base):
+        return len(self.texts[base]) + EACH if base in self.texts else 0
