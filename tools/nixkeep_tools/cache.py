@@ -2,6 +2,7 @@
 import asyncio
 import collections
 import contextlib
+import functools
 import logging
 import os
 import resource
@@ -131,6 +132,19 @@ def fair(most):
     return counted
 
 
+def together(middlewares):
+    """One middleware for many, the first of which is the outermost: at each request aiohttp copies all that a function
+    has for each of its own."""
+
+    @web.middleware
+    async def answered(request, handler):
+        for it in reversed(middlewares):
+            handler = functools.partial(it, handler=handler)
+        return await handler(request)
+
+    return answered
+
+
 def dispatched(parts):
     """The handler of all targets. Routes of aiohttp's would undo percent signs in them."""
     routes = [it for part in parts for it in part.routes()]
@@ -194,7 +208,8 @@ async def application(said, server, waiting, settings, signing, is_local):
     most = resource.getrlimit(resource.RLIMIT_NOFILE)[0] // (1 if fixed else PART)
     middlewares = [ending.counted, watched.watching.observed, alone, framed, failures(said.idle), admitted, fair(most)]
     # (a body is what came, as to the server: one that is unpacked ahead of its limits would fill the memory)
-    made = web.Application(client_max_size=BODY, middlewares=middlewares, handler_args={"auto_decompress": False})
+    made = web.Application(client_max_size=BODY, middlewares=[together(middlewares)],
+                           handler_args={"auto_decompress": False})
     made.router.add_route("*", "/{target:.*}", dispatched(parts))
     made.cleanup_ctx.extend([begun(server), expiring(waiting, sessions, watched.day)])
     made.on_response_prepare.append(begins)

@@ -1,5 +1,6 @@
 """Figures for Prometheus: /metrics."""
 import asyncio
+import functools
 import os
 import re
 import time
@@ -52,7 +53,13 @@ class Metrics:
         self.received = made(counter, "received_bytes", "Bytes of the bodies of requests.", by_route)
         self.sent = made(counter, "sent_bytes", "Bytes of the bodies of replies.", by_route)
         self.lookups = made(counter, "lookups", "Records that were asked for, by whether they were found.", ["found"])
+        # (to find the figures of labels takes longer than to count)
+        self.of = functools.cache(self.labelled)
         registry.register(self)
+
+    def labelled(self, method, route, status):
+        by_route = [it.labels(method, route) for it in (self.seconds, self.received, self.sent)]
+        return self.requests.labels(method, route, status), *by_route
 
     def routes(self) -> list[Route]:
         return [Route(READ, TARGET, self.page)]
@@ -60,11 +67,11 @@ class Metrics:
     def observe(self, seen: Seen) -> None:
         if not prometheus_client:
             return
-        labels = method_of(seen.request), seen.route
-        self.requests.labels(*labels, seen.status).inc()
-        self.seconds.labels(*labels).observe(seen.seconds)
-        self.received.labels(*labels).inc(seen.received)
-        self.sent.labels(*labels).inc(seen.sent)
+        requests, seconds, received, sent = self.of(method_of(seen.request), seen.route, seen.status)
+        requests.inc()
+        seconds.observe(seen.seconds)
+        received.inc(seen.received)
+        sent.inc(seen.sent)
         if seen.route == "record" and seen.request.method in READ and seen.status in (200, 404):
             self.lookups.labels("yes" if seen.status == 200 else "no").inc()
 
