@@ -1,7 +1,8 @@
 """Measures many readers of one store: nixkeep-cache alone, and nginx as the proxy of one copy of the file, and of
 three, without its cache and with it.
 
-  alone       nixkeep-cache without nginx, next to a server on the same aiohttp that answers everything at once
+  alone       nixkeep-cache without nginx, next to a server on the same aiohttp that answers everything at once; each
+              record has been asked for once before, so all are in its memory
   one, three  how many copies there are
 
 Each copy has a server and a nixkeep-cache of its own. nginx asks them as in examples/team, with a connection for each
@@ -106,7 +107,7 @@ def fill(port, targets, folder=None):
     def ask(some):
         connection = http.client.HTTPConnection("127.0.0.1", port)
         for it in some:
-            connection.request("GET", it)
+            connection.request("GET", it, headers={"store-user": "reader"})
             text = connection.getresponse().read()
             if folder:
                 file = Path(f"{folder}{it}")
@@ -202,6 +203,7 @@ def alone(_, words, folder):
     title(f"{CLIENTS} clients of nixkeep-cache alone over {words.objects:,} objects")
     with parts.server(words.file, folder, f"{folder}/store.toml", f"{folder}/store.db") as server, \
             parts.cache(folder, server.place) as cache:
+        fill(cache.place, targets["records"])
         for what, asked_for in targets.items():
             before = processor([(server, cache)])
             out = asked(folder, cache.place, asked_for, words.seconds)

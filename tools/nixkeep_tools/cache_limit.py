@@ -11,7 +11,7 @@ ACCEPTED, WARNED = 0.6, 0.8
 ROOTS = 0.05
 # The part of the memory that a server may have before it takes nothing more: its next start needs a fifth more, and
 # many small rows need much more than their bytes in the file. And the part that it may have together with this process,
-# which has the names of all objects: the rest is for listings of them, and for archives.
+# which has the names of all objects, and records: the rest is for listings of them, and for archives.
 HAD, TOGETHER = 0.75, 0.8
 # The seconds between two looks at the file, and between two warnings.
 LOOK, AGAIN = 1, 3600

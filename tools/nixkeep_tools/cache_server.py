@@ -27,7 +27,7 @@ Reply = collections.namedtuple("Reply", "status kind text")
 REPEATED = re.compile(r"GET .*|POST /(text|source|import|temp/[^/]+/[0-9]+)")
 # The targets of requests that delete objects.
 DELETES = ("/collect", "/delete")
-# The least status of a reply that says of no object whether it is there.
+# The least status of a reply by which the server fails: what it said before may be true no more.
 FAILED = 500
 # The bytes of a reply that are read ahead. A head is much shorter.
 AHEAD = 1 << 20

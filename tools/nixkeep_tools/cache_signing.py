@@ -157,8 +157,8 @@ class Signing:
                 if self.is_good(name, message, it):
                     # (in the one form of its bytes, or it could be kept sixteen times)
                     kept = written(*read_form(it))
-                    self.changes += 1
-                    cache_lists.add(self.conn, "INSERT OR IGNORE INTO signature VALUES (?, ?, ?)", (*row, kept))
+                    statement = "INSERT OR IGNORE INTO signature VALUES (?, ?, ?)"
+                    self.changes += cache_lists.add(self.conn, statement, (*row, kept))
 
     def is_good(self, name: str, message: bytes, text: str) -> bool:
         form = read_form(text)
@@ -179,8 +179,9 @@ class Signing:
             self.drop([it for (it,) in self.conn.execute("SELECT DISTINCT base FROM signature") if it not in there])
 
     def drop(self, bases: Iterable[str]) -> None:
-        self.changes += 1
-        cache_lists.delete(self.conn, "DELETE FROM signature WHERE base = ?", [(it,) for it in bases])
+        rows = [(it,) for it in bases]
+        self.changes += bool(rows)
+        cache_lists.delete(self.conn, "DELETE FROM signature WHERE base = ?", rows)
 
 
 
