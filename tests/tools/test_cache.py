@@ -1,7 +1,7 @@
 """Tests nixkeep-cache on loopback: its replies by curl, uploads and fetches by Nix, bounds, many clients, a server that
 starts again.
 
-test_cache_store has a server that is its child, servers that die, limits and sessions, test_cache_held records that
+test_cache_store has a server that is its child, servers that die, limits and sessions, test_cache_recent records that
 are answered from memory, test_cache_costs what one user's requests cost others, test_cache_signatures signatures, and
 test_cache_watch metrics, health, the record of changes and the last day.
 """

@@ -6,9 +6,9 @@ from typing import TYPE_CHECKING
 from aiohttp import web
 
 from . import cache_encoding, cache_records, pointers
-from .cache_held import Held
 from .cache_http import READ, Route, Sending, passed, reply
 from .cache_names import Names
+from .cache_recent import Recent
 from .cache_server import Request, Server
 from .cache_sessions import Sessions
 from .cache_signing import Signing
@@ -60,7 +60,7 @@ class Archives:
                  signing: Signing, sending: Sending, store: str, large: "Large | None" = None):
         self.server, self.names, self.stored, self.waiting = server, names, stored, waiting
         self.sessions, self.signing, self.sending, self.store = sessions, signing, sending, store
-        self.large, self.packing, self.held = large, Turns(), Held(server, signing)
+        self.large, self.packing, self.recent = large, Turns(), Recent(server, signing)
 
     def routes(self) -> list[Route]:
         handlers = [(INFO, self.info), (RECORD, self.record), (FILE, self.file), (ARCHIVE, self.archive)]
@@ -82,9 +82,9 @@ class Archives:
         if not base:
             return reply(404, "no such path\n")
         # (by HEAD a client learns what it has to upload, which the server says)
-        if request.method == "GET" and (text := self.held.text(base)):
+        if request.method == "GET" and (text := self.recent.text(base)):
             return reply(200, text, "text/x-nix-narinfo", MINUTE)
-        now = self.held.now()
+        now = self.recent.now()
         answer = await self.server.ask(caller, "GET", f"/info/{base}")
         if answer.status != 200:
             return passed(answer)
@@ -95,7 +95,7 @@ class Archives:
             return reply(200, self.signing.signed(text), "text/x-nix-narinfo", MINUTE, vary="user-agent")
         url = f"URL: nar/{hash_of(answer.text)}/{base}".encode()
         text = self.signing.signed(re.sub(rb"^URL: .*$", lambda _: url, answer.text, count=1, flags=re.M))
-        self.held.hold(base, text, now)
+        self.recent.add(base, text, now)
         return reply(200, text, "text/x-nix-narinfo", MINUTE)
 
     async def archive(self, request: web.Request, digest: str, base: str) -> web.StreamResponse:

@@ -4,19 +4,19 @@ import collections
 from .cache_server import Server
 from .cache_signing import Signing
 
-# The bytes of the texts that are held, and what each has besides.
+# The bytes of the texts that are in memory, and what each has besides.
 MOST, EACH = 32 << 20, 1000
 
 
-class Held:
+class Recent:
     """Texts of records as clients get them, by base names. They are good while the server says that none has changed
-    (`Server.age`), and while the same signatures are kept. Those that were asked for last are held."""
+    (`Server.age`), and while the same signatures are kept. Those that were asked for last stay."""
 
     def __init__(self, server: Server, signing: Signing, most: int = MOST):
         self.server, self.signing, self.most = server, signing, most
         self.texts, self.size, self.of = collections.OrderedDict(), 0, None
 
-    def now(self) -> tuple[int, int] | None:
+    def now(self) -> tuple | None:
         """What a record is good for that the server is asked for from now on; None where that isn't known."""
         age = self.server.age()
         return None if age is None else (age, self.signing.changes)
@@ -30,8 +30,8 @@ class Held:
             self.texts.move_to_end(base)
         return text
 
-    def hold(self, base: str, text: bytes, asked: tuple[int, int] | None) -> None:
-        """Holds a record for which the server was asked when `now` gave `asked`."""
+    def add(self, base: str, text: bytes, asked: tuple | None) -> None:
+        """Adds a record for which the server was asked when `now` gave `asked`."""
         if asked is None or asked != self.now():
             return
         if self.of != asked:

@@ -14,7 +14,7 @@ import pytest
 
 import parts
 from nixkeep_dev.testing import nar
-from nixkeep_tools import cache_held, cache_server
+from nixkeep_tools import cache_recent, cache_server
 from parts import body
 from tests.tools.cached import CONFIG, ask, figures, file_name, record, text
 
@@ -87,7 +87,7 @@ def test_a_deletion_that_is_on_its_way(unit):
         store = Store(running.place)
         with stopped(running):
             deletion = pool.submit(store.delete)
-            parts.until("it is sent", lambda: not store.is_answered())
+            parts.until("it is sent", lambda: not store.is_answered(), 60)
             late = pool.submit(store.get)
         assert (deletion.result(), late.result()[0]) == (200, 404)
         assert store.add() == store.path and store.get() == store.first, "when it is added again it is there"
@@ -100,7 +100,7 @@ def test_a_deletion_whose_client_leaves(unit):
         with stopped(running):
             leaving = subprocess.Popen(["curl", "-s", "--unix-socket", store.place, "-H", "store-user: ann",
                                         "--data-binary", f"path: {store.path[11:]}\n\n", "http://red/delete"])
-            parts.until("it is sent", lambda: not store.is_answered())
+            parts.until("it is sent", lambda: not store.is_answered(), 60)
             leaving.kill()
             leaving.wait()
         parts.until("it is deleted", lambda: store.get()[0] == 404, 60)
@@ -181,30 +181,30 @@ class Place:
         pass
 
 
-@pytest.mark.parametrize("method, target, status, is_held", [
+@pytest.mark.parametrize("method, target, status, stays", [
     ("GET", "/info/a", 200, True), ("GET", "/info/a", 404, True), ("POST", "/import", 200, True),
     ("POST", "/temp/ann/1", 200, True), ("DELETE", "/root/user/ann/a", 200, True), ("POST", "/import", 507, False),
     ("GET", "/info/b", 503, False), ("POST", "/delete", 200, False), ("POST", "/collect", 503, False)])
-def test_what_voids_records(method, target, status, is_held):
+def test_what_voids_records(method, target, status, stays):
     """A deletion, and a reply by which the server fails: it may have no file any more."""
     async def run():
         server, ann = cache_server.Server(Place(404, status, 404), 4, 4), cache_server.Caller("ann", None)
-        held = cache_held.Held(server, types.SimpleNamespace(changes=0))
-        held.hold("a", b"early", held.now())
-        assert held.text("a") is None, "nothing is known before there is a connection"
+        recent = cache_recent.Recent(server, types.SimpleNamespace(changes=0))
+        recent.add("a", b"early", recent.now())
+        assert recent.text("a") is None, "nothing is known before there is a connection"
         await server.ask(ann, "GET", "/")
-        before = held.now()
-        held.hold("a", b"text", before)
-        assert held.text("a") == b"text"
+        before = recent.now()
+        recent.add("a", b"text", before)
+        assert recent.text("a") == b"text"
         await server.ask(ann, method, target)
-        assert held.text("a") == (b"text" if is_held else None)
-        held.hold("b", b"asked before", before)
-        assert held.text("b") == (b"asked before" if is_held else None), "nor is what was asked for before"
-        held.hold("a", b"text", held.now())
+        assert recent.text("a") == (b"text" if stays else None)
+        recent.add("b", b"asked before", before)
+        assert recent.text("b") == (b"asked before" if stays else None), "nor is what was asked for before"
+        recent.add("a", b"text", recent.now())
         server.close()
-        assert held.text("a") is None, "a connection that has ended"
+        assert recent.text("a") is None, "a connection that has ended"
         await server.ask(ann, "GET", "/")
-        assert held.text("a") is None, "or another one"
+        assert recent.text("a") is None, "or another one"
 
     asyncio.run(run())
 
@@ -212,12 +212,12 @@ def test_what_voids_records(method, target, status, is_held):
 def test_the_memory_of_records():
     """It has a bound, and those that were asked for last are in it."""
     server = types.SimpleNamespace(age=lambda: 1)
-    held = cache_held.Held(server, types.SimpleNamespace(changes=0), 10 * (cache_held.EACH + 100))
+    recent = cache_recent.Recent(server, types.SimpleNamespace(changes=0), 10 * (cache_recent.EACH + 100))
     for at in range(30):
-        held.hold(str(at), bytes(100), held.now())
-        assert held.text("0")
-    assert [it for it in range(30) if held.text(str(it))] == [0, *range(21, 30)]
-    held.hold("0", bytes(10_000), held.now())
-    assert len(held.texts) < 10 and held.size <= held.most
-    held.hold("large", bytes(held.most), held.now())
-    assert (len(held.texts), held.size) == (0, 0), "one that is larger than all is in none"
+        recent.add(str(at), bytes(100), recent.now())
+        assert recent.text("0")
+    assert [it for it in range(30) if recent.text(str(it))] == [0, *range(21, 30)]
+    recent.add("0", bytes(10_000), recent.now())
+    assert len(recent.texts) < 10 and recent.size <= recent.most
+    recent.add("large", bytes(recent.most), recent.now())
+    assert (len(recent.texts), recent.size) == (0, 0), "one that is larger than all is in none"
