@@ -1,7 +1,6 @@
-"""What pytest collects here, the options and the fixtures: `pytest` runs all of it, and bin/run one module.
+"""The options and the fixtures of all tests: `pytest` runs all of it, and bin/run one module.
 
-Each file of tests/cases is run once, and each of its steps is a test: `pytest tests/cases/who.txt`. `bin/test cases`
-does the same without pytest. What is marked `needs("curl", ..)` is skipped where one of these isn't installed, and the
+Each file of tests/cases is run once, and each of its steps is a test: `pytest tests/cases/who.txt`. What is marked `needs("curl", ..)` is skipped where one of these isn't installed, and the
 summary (`-rs`) says what. With xdist, `-n auto --dist loadfile` runs files side by side.
 """
 import functools
@@ -16,7 +15,8 @@ from pathlib import Path
 import pytest
 
 from nixkeep_dev.build import release
-from nixkeep_dev.testing import cases, minutes, report
+from nixkeep_dev.build.program import HERE
+from nixkeep_dev.testing import case_items, cases, minutes, report
 from nixkeep_dev.testing.libraries import Libraries
 
 # The seeds that a day has for itself.
@@ -28,14 +28,19 @@ def pytest_addoption(parser):
     add("--program", metavar="FILE", help="the program; else the one that bin/nixkeep runs")
     add("--seed", metavar="N", type=int, default=A_DAY * report.today(), help="what chance begins with; else the day")
     add("--count", metavar="N", type=int, help="how much is tried; else as much as each test says")
+    add("--seconds", metavar="N", type=float, default=cases.SECONDS, help="what a page of cases may take")
     add("--libraries", metavar="FILE", help="the program of crates/bench; else what needs it is skipped")
     add("--minutes", metavar="N", type=float, default=0, help="how long at least faults/soak.py goes on (0)")
     add("--built", action="store_true", help="what `rt ci` leaves has to be there; else tests of that are skipped")
+    add("--lower", action="store_true", help="gate/checks.py: write numbers that are lower to files of gate/")
+    add("--raise", action="store_true", help="gate/checks.py: write numbers that are higher to files of gate/")
+    add("--write", action="store_true", help="gate/generated.py: write the pages")
     add("--root", metavar="FOLDER", help="a clean Debian that was made before, for package/clean_machine.py")
 
 
 def pytest_configure(config):
     config.pluginmanager.register(minutes.Minutes())
+    config.pluginmanager.register(case_items.Cases(program_file), case_items.Cases.__name__)
 
 
 @pytest.hookimpl(tryfirst=True)
@@ -48,24 +53,22 @@ def pytest_runtest_setup(item):
 # ---- what tests are given
 
 
-def program_file(config):
+def program_file(session: pytest.Session) -> str:
+    """The file of the program that is tried. Where there is none, nothing more is tried."""
     try:
-        file = str(Path(config.getoption("--program") or release.ready()).absolute())
+        file = str(Path(session.config.getoption("--program") or release.ready()).absolute())
+        why = None if os.access(file, os.X_OK) else f"there is no program {file}"
     except SystemExit as stopped:
-        pytest.fail(f"there is no program: status {stopped.code}", pytrace=False)
-    if not os.access(file, os.X_OK):
-        pytest.fail(f"there is no program {file}", pytrace=False)
+        why = f"there is no program: status {stopped.code}"
+    if why:
+        session.shouldfail = why
+        pytest.fail(why, pytrace=False)
     return file
 
 
 @pytest.fixture(scope="session")
 def program(request):
-    """The file of the program that is tried. Where there is none, nothing more is tried."""
-    try:
-        return program_file(request.config)
-    except pytest.fail.Exception as why:
-        request.session.shouldfail = str(why)
-        raise
+    return program_file(request.session)
 
 
 @pytest.fixture(scope="session")
@@ -77,7 +80,7 @@ def left_by_ci(pytestconfig) -> Callable:
             return Path(named).absolute()
         if not (is_there() if is_there else Path(file).exists()):
             missing = pytest.fail if pytestconfig.getoption("--built") else pytest.skip
-            missing(f"there is no {Path(file).relative_to(cases.HERE)} of the present sources: `rt ci` leaves it")
+            missing(f"there is no {Path(file).relative_to(HERE)} of the present sources: `rt ci` leaves it")
         return Path(file)
 
     return left
@@ -142,57 +145,3 @@ def side_by_side(request) -> Iterator[Callable]:
 
         yield begin
         pool.shutdown(cancel_futures=True)
-
-
-# ---- cases
-
-
-def pytest_collect_file(file_path, parent):
-    if file_path.suffix == ".txt" and file_path.parent == Path(cases.CASES):
-        return Case.from_parent(parent, path=file_path)
-    return None
-
-
-class Case(pytest.File):
-    """A file of cases, which is run when the first of its steps is."""
-
-    came = None
-
-    def collect(self):
-        for step in cases.steps_of(self.path.read_text()):
-            yield Step.from_parent(self, name=f"line-{step.line}", step=step)
-
-    def ran(self):
-        """The run of the whole file."""
-        if self.came is None:
-            self.came = cases.run_case(str(self.path), {"nixkeep": program_file(self.config)})
-        return self.came
-
-
-class Differs(Exception):
-    """A step came out otherwise than written; with what differs."""
-
-
-class Step(pytest.Item):
-    """A step of a file."""
-
-    def __init__(self, *, step, **more):
-        super().__init__(**more)
-        self.step = step
-
-    def runtest(self):
-        ran = self.parent.ran()
-        for step, what in ran.skipped:
-            if step.line == self.step.line:
-                pytest.skip(f"without {what}")
-        for step, why in ran.wrong:
-            if step.line == self.step.line:
-                raise Differs(why)
-
-    def repr_failure(self, excinfo, style=None):
-        if isinstance(excinfo.value, Differs):
-            return f"{self.path.name}, line {self.step.line}: $ {self.step.command}\n{excinfo.value}"
-        return super().repr_failure(excinfo, style)
-
-    def reportinfo(self):
-        return self.path, self.step.line - 1, f"{self.path.name}, {self.name}"

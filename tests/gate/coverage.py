@@ -149,12 +149,12 @@ def run(words):
         report.tell(f"{part:5.1f} % of {name.removeprefix(top + '/')}")
     if words.names:
         return len(failed)
-    if words.is_raised:
-        kept.write({NAME: percent})
-    is_kept, lines = kept.check(NAME, percent)
-    report.tell("\n".join([f"{percent} % of the lines of the tools ran", *lines]))
-    report.passes(is_kept)
-    return len(failed) + (not is_kept)
+    report.tell(f"{percent} % of the lines of the tools ran")
+    lower = [*kept.faults({NAME: percent}, words.is_raised)]
+    for line in lower:
+        report.failure(line)
+    report.passes(not lower)
+    return len(failed) + len(lower)
 
 
 if __name__ == "__main__":

@@ -28,7 +28,7 @@ WITHOUT = ("bench/first_run.py", "bench/proofs.py", "bin/release", "bin/run", "t
 OF_TOOLS = ("foreign", "formats", "large_model", "launcher", "measured", "release")
 NEEDS_NONE = ("bin/test", "bin/bench", "tests/gate/", "tools/", *(f"tests/tools/test_{it}.py" for it in OF_TOOLS))
 # What begins to prove although it has no such option, or although the others of its folder need none.
-BUILDS = ("bin/nixkeep", "bin/release", "tests/gate/cases.py")
+BUILDS = ("bin/nixkeep", "bin/release", "tests/cases/who.txt")
 # One name of each part of bin/test that needs the program; the others are of checks that need none.
 RUNS = ("cases who", "compare curl", "faults cut_heads", "tools remote", "team cache", "package files", "")
 

@@ -21,8 +21,8 @@ from nixkeep_dev.testing import report
 from nixkeep_dev.testing.tracked import copy_to
 
 SUITE = "bookworm"
-# Next to what is essential: what shows manual pages and completes, and what steps of cases use.
-INCLUDED = "apt,python3,man-db,bash-completion,ca-certificates,curl,sqlite3,iproute2,openssl"
+# Next to what is essential: what shows manual pages and completes, and what runs cases and what their steps use.
+INCLUDED = "apt,python3,man-db,bash-completion,ca-certificates,python3-pytest,curl,sqlite3,iproute2,openssl"
 # Where removed packages and logs leave traces that aren't the package's.
 ASIDE = ("var/lib/dpkg", "var/lib/apt", "var/cache", "var/log", "proc", "dev", "sys", "run", "tmp", "checkout",
          "usr/share/man/index.db", "var/lib/systemd")
@@ -124,7 +124,7 @@ def test_who(machine):
 
 
 def test_cases_by_the_installed_program(machine):
-    cases = "cd /checkout && exec python3 -B bin/run tests/gate/cases.py --program /usr/bin/nixkeep"
+    cases = "cd /checkout && exec python3 -B bin/run tests/cases --program /usr/bin/nixkeep"
     said = machine.well("sh", "-c", cases)
     report.passes(int(said.splitlines()[-1].split()[0]))
 

@@ -1,8 +1,9 @@
 """Runs cases and tests by pytest in a small copy of this repository, and looks at what it says of each.
 
 Each step of a case is a test that passes, one that came out otherwise fails with what differs, and one whose tools
-aren't installed is skipped with the reason. bin/run does the same with a module of tests, and counts at its end. A
-part of the gate that hangs is ended, and has failed.
+aren't installed is skipped with the reason. A step that only prepares something isn't counted unless it fails. bin/run
+does the same, also with a module of tests, and counts at its end. A part of the gate that hangs is ended, and has
+failed.
 """
 import os
 import re
@@ -31,6 +32,10 @@ CASE = """One of each kind.
 
   $ without no-such-tool && echo done
   *done (glob)
+
+  $ folder=here
+
+  $ cd no-such-folder
 """
 # A module with a test of each kind.
 MODULE = """import pytest
@@ -112,20 +117,28 @@ def pytest_ran(ran):
 
 def test_a_case_that_passes(pytest_ran):
     status, said = pytest_ran("tests/cases/who.txt")
-    count = len(steps_of(Path(f"{HERE}/tests/cases/who.txt").read_text()))
-    assert (status, f"{count} passed in" in said) == (0, True), said
+    steps = steps_of(Path(f"{HERE}/tests/cases/who.txt").read_text())
+    prepared = sum(it.only_prepares() for it in steps)
+    assert (status, f"{len(steps) - prepared} passed, {prepared} only prepare in" in said) == (0, True), said
 
 
 def test_a_step_of_each_kind(pytest_ran):
     status, said = pytest_ran("tests/cases/kinds.txt")
-    assert (status, "1 failed, 1 passed, 1 skipped" in said) == (1, True), said
+    assert (status, "2 failed, 1 passed, 1 skipped, 1 only prepare in" in said) == (1, True), said
     assert re.search(r"^-as written\n\+otherwise$", said, re.M), said
-    assert "without no-such-tool" in said
+    assert "kinds.txt, line 9: without no-such-tool" in said and "kinds.txt, line 14: $ cd no-such-folder" in said
+
+
+def test_pages_by_bin_run(ran):
+    status, said = ran("bin/run", "tests/cases/kinds.txt", "tests/cases/who.txt")
+    passed = sum(not it.only_prepares() for it in steps_of(Path(f"{HERE}/tests/cases/who.txt").read_text()))
+    assert (status, said.splitlines()[-1]) == (1, f"{passed + 1} passed, 2 failed, 1 skipped"), said
+    assert re.findall("^skipped: .*", said, re.M) == ["skipped: kinds.txt, line 9: without no-such-tool"]
 
 
 def test_one_step_by_its_line(pytest_ran):
     status, said = pytest_ran("tests/cases/kinds.txt", "-k", "line-3")
-    assert (status, "1 passed, 2 deselected" in said) == (0, True), said
+    assert (status, "1 passed, 4 deselected" in said) == (0, True), said
 
 
 def test_a_module_with_a_test_of_each_kind(ran):

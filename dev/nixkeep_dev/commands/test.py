@@ -31,12 +31,13 @@ import sys
 from pathlib import Path
 
 from nixkeep_dev.testing import packages, parts, report, skips
+from nixkeep_dev.testing.cases import CASES
 from nixkeep_dev.testing.runs import ALONE, TESTS, command, file_of, not_allowed, options_of, run, together
 
 # The processor minutes that all may take. Another number is a decision, which belongs into docs/DECISIONS.md.
 BUDGET = 400
 # Parts that are one script, to which names are given.
-BY_THEMSELVES = {"cases": "cases", "bodies": "wrong_bodies", "plant": "plant", "sabotage": "sabotage"}
+BY_THEMSELVES = {"bodies": "wrong_bodies", "plant": "plant", "sabotage": "sabotage"}
 
 
 def say_what_is_missing():
@@ -49,12 +50,18 @@ def by_itself(part, known):
     return [it for it in known if part != "gate" or it in parts.CHECKS]
 
 
+def whole_part(words):
+    """The file that runs a part, and the names that are given to it; the files of cases."""
+    if words.part == "cases":
+        return [f"{CASES}/{it.removesuffix('.txt')}.txt" for it in words.names] or [CASES]
+    return [file_of(f"gate/{BY_THEMSELVES[words.part]}"), *words.names]
+
+
 def run_part(words, parser):
     program = words.program and str(Path(words.program).absolute())
     given = {"program": program, "seed": words.seed, "count": words.count}
-    if words.part in BY_THEMSELVES:
-        file = file_of(f"gate/{BY_THEMSELVES[words.part]}")
-        return together([run([file, *options_of(file, given), *words.names], limit=ALONE)],
+    if words.part in ("cases", *BY_THEMSELVES):
+        return together([run([*whole_part(words), *options_of(whole_part(words)[0], given)], limit=ALONE)],
                         may_skip=not words.no_skips)
     known = parts.by_name()[words.part]
     if unknown := [it for it in words.names if it not in known]:
@@ -92,7 +99,7 @@ def run_all(words):
 
 def main() -> int:
     parser = report.parser(__doc__)
-    parser.add_argument("part", nargs="?", choices=["all", *BY_THEMSELVES, *parts.by_name()], metavar="PART")
+    parser.add_argument("part", nargs="?", choices=["all", "cases", *BY_THEMSELVES, *parts.by_name()], metavar="PART")
     parser.add_argument("names", nargs="*", metavar="NAME")
     parser.add_argument("--program", metavar="FILE", help="the program that is tried")
     parser.add_argument("--seed", metavar="N", type=int, help="what chance begins with; else the day")

@@ -1,14 +1,17 @@
-"""Modules of tests that pytest runs, next to scripts: bin/run starts both, and what each prints at its end is the same.
+"""Modules of tests and cases, which pytest runs, next to scripts: bin/run starts both, and what each prints at its end
+is the same.
 
-A module with a function `test_..` is one of pytest. tests/conftest.py has the options and the fixtures. The words after
-the module are those of pytest, as `-k said`.
+A module with a function `test_..` is one of pytest, and so are the cases. tests/conftest.py has the options and the
+fixtures. The words after the module are those of pytest, as `-k said`.
 """
 import ast
 import collections
 import re
+import textwrap
 from pathlib import Path
 
 from nixkeep_dev.testing import report
+from nixkeep_dev.testing.cases import CASES, PREPARES
 
 OPTIONS = """usage: bin/run {name} [WORD OF PYTEST..] [--program FILE] [--seed N] [--count N]
 
@@ -17,8 +20,8 @@ OPTIONS = """usage: bin/run {name} [WORD OF PYTEST..] [--program FILE] [--seed N
   --seed N         what chance begins with; else the day
   --count N        how much is tried; else as much as each test says
 """
-# Each test is a line. What is skipped comes at the end.
-SHOWN = ["--verbose", "--no-header", "-rfE", "-p", "no:cacheprovider"]
+# What is skipped comes at the end. Each test of a module is a line, and so is each file of cases.
+SHOWN = ["--no-header", "-rfE", "-p", "no:cacheprovider"]
 
 
 class Counts:
@@ -47,7 +50,7 @@ class Counts:
         elif report.skipped:
             self.skipped[report.longrepr[2].removeprefix("Skipped: ")] += 1
         elif report.when == "call":
-            self.passed += 1
+            self.passed += PREPARES not in report.user_properties
 
     def pytest_collectreport(self, report):
         if report.failed:
@@ -73,14 +76,25 @@ class Counts:
         report.tell(report.ending(self.passed, len(self.failed), self.skipped.total()))
 
 
+def are_cases(file: str) -> bool:
+    """Whether this is a page of cases, or the folder of all."""
+    return Path(CASES) in [Path(file).resolve(), Path(file).resolve().parent]
+
+
 def has_tests(file: str) -> bool:
-    """Whether pytest runs a module of tests/: it has tests."""
-    return re.search(r"^def test_", Path(file).read_text(), re.M) is not None
+    """Whether pytest runs this: it is of the cases, or a module of tests/ that has tests."""
+    return are_cases(file) or re.search(r"^def test_", Path(file).read_text(), re.M) is not None
 
 
 def help_of(file: str) -> str:
-    """What a module is about, and its options."""
-    return f"{ast.get_docstring(ast.parse(Path(file).read_text()))}\n\n{OPTIONS.format(name=file)}"
+    """What a module is about, its options, and what its tests are about."""
+    source = Path(__file__).with_name("case_items.py") if are_cases(file) else Path(file)
+    tree = ast.parse(source.read_text())
+    texts = {node.name: ast.get_docstring(node) for node in tree.body
+             if isinstance(node, ast.FunctionDef) and node.name.startswith("test_")}
+    tests = [textwrap.fill(f"{name}: {text}", 120, initial_indent="  ", subsequent_indent="    ")
+             for name, text in texts.items() if text]
+    return "\n".join([f"{ast.get_docstring(tree)}\n\n{OPTIONS.format(name=file)}", *tests])
 
 
 def run(file: str, words: list) -> int:
@@ -93,7 +107,7 @@ def run(file: str, words: list) -> int:
         return 0
     import pytest
 
-    counts = Counts()
-    status = pytest.main([*SHOWN, file, *words], plugins=[counts])
+    counts, each = Counts(), [] if are_cases(file) else ["--verbose"]
+    status = pytest.main([*SHOWN, *each, file, *words], plugins=[counts])
     counts.tell()
     return int(status or bool(counts.failed))

@@ -15,6 +15,8 @@ from nixkeep_dev.testing.http_messages import free_port
 CASES = f"{HERE}/tests/cases"
 # What a case may take.
 SECONDS = 1200
+# A property of the tests of steps that only prepare something: where they pass they aren't counted.
+PREPARES = ("only prepares", True)
 
 # Runs the steps in one shell, so that a later one sees the variables, the folder and the jobs of those before it.
 SHELL = """
@@ -42,9 +44,6 @@ class Ran:
     def passed(self) -> int:
         return self.count - len(self.wrong) - len(self.skipped) - self.prepared
 
-    def summary(self) -> str:
-        return f"{self.passed() + self.prepared} of {self.count} steps as written; {self.prepared} only prepare"
-
 
 class Step:
     """A command, the number of its line, and the lines after it: what has to come."""
@@ -52,7 +51,7 @@ class Step:
     def __init__(self, line, command):
         self.line, self.command, self.wanted = line, command, []
 
-    def only_prepares(self):
+    def only_prepares(self) -> bool:
         """Whether nothing is wanted of it but that it says nothing, and it compares nothing."""
         return not self.wanted and bool(not COMPARES.search(self.command) or FUNCTION.fullmatch(self.command))
 

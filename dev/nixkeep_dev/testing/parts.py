@@ -23,7 +23,7 @@ BOUNDED = {
 # The script that tries a team's deployment.
 TEAM = "../examples/team/try"
 # Those that take longest, the longest first: so at the end, when few are left, none of them goes on alone.
-LONGEST = [TEAM, "tools/test_remote", "gate/cases", "tools/test_overview", "faults/refuse_memory",
+LONGEST = [TEAM, "tools/test_remote", "cases", "tools/test_overview", "faults/refuse_memory",
            "faults/hostile_clients", "tools/test_large", "tools/test_closure", "faults/fail_streams",
            "faults/stop_writes", "compare/nix_store", "compare/sqlite", "tools/test_explain", "tools/test_cache",
            "tools/test_backup"]

@@ -4,6 +4,7 @@ Each check that passes is counted: of a test of pytest these are its examples. T
 the script, unless `failure` reports it. What a machine doesn't have is skipped: a line says so, and is counted. The
 last line of a script is `N passed, M failed`, and where something was skipped `N passed, M failed, K skipped`."""
 import argparse
+import functools
 import os
 import random
 import shutil
@@ -73,6 +74,18 @@ def same(what: str, came: Any, wanted: Any, kept: bytes | str | None = None) -> 
     if came != wanted:
         fail(f"{what} differs:\n  came   {short(came)}\n  wanted {short(wanted)}", kept)
     passes()
+
+
+def finds_nothing(check: Callable[..., Iterable[str]]) -> Callable[..., None]:
+    """The test that a check finds nothing: it gives a line for each thing that is wrong."""
+    import pytest
+
+    @functools.wraps(check)
+    def test(*given: Any, **named: Any) -> None:
+        if lines := [*check(*given, **named)]:
+            pytest.fail("\n".join(lines), pytrace=False)
+
+    return test
 
 
 def tell(text: object) -> None:
@@ -159,16 +172,6 @@ def count_places(most: int | None, total: int, seed: int) -> int:
     count = total if most is None else min(most, total)
     tried, places, chosen_by = tried + count, places + total, seed if count < total else chosen_by
     return count
-
-
-def run_checks(parts: Iterable[Callable]) -> int:
-    """Runs checks, each of which gives a line for each thing that is wrong, and returns how many found something."""
-    found = {part.__name__: list(part()) for part in parts}
-    for part, lines in found.items():
-        passes(not lines)
-        for line in lines:
-            tell(f"{part}: {line}")
-    return sum(map(bool, found.values()))
 
 
 def main(run):

@@ -19,7 +19,7 @@ TESTS = f"{program.HERE}/tests"
 # The minutes after which a script hangs, where all run together: many times what it takes on a machine that is busy.
 # The second number is for those that take minutes; one that is run alone may try each place there is, for hours.
 LIMIT, LONG, ALONE = 30, 120, 24 * 60
-LONG_ONES = ("examples/team/try", "gate/by_rattle", "gate/cases", "gate/coverage", "gate/launched", "gate/sabotage",
+LONG_ONES = ("cases", "examples/team/try", "gate/by_rattle", "gate/coverage", "gate/launched", "gate/sabotage",
              "gate/started", "package/clean_machine", "compare/model", "compare/nix_store", "compare/sqlite",
              "faults/stop_writes", "tools/test_cache", "tools/test_large", "tools/test_remote", "tools/test_units")
 # How many of the last lines of a run that failed are shown again.
@@ -38,16 +38,16 @@ def scripts(folder: str, start: str = "") -> list[str]:
 
 
 def file_of(name: str) -> str:
-    """The file of a script by its name below tests/: a module or, of examples/, an executable."""
+    """The file of a script by its name below tests/: a module, the folder of cases or, of examples/, an executable."""
     # (normpath: Path leaves `..` in a path, or takes links out of it)
     file = os.path.normpath(f"{TESTS}/{name}")
-    return file if Path(file).is_file() else f"{file}.py"
+    return file if Path(file).exists() else f"{file}.py"
 
 
 def command(words: list[str]) -> list[str]:
-    """The command that starts a script with words: bin/run of its repository, if it is a module."""
+    """The command that starts a script with words: bin/run of its repository, if it is a module or of the cases."""
     file = str(Path(words[0]).absolute())
-    if not file.endswith(".py"):
+    if not file.endswith((".py", ".txt", "/tests/cases")):
         return [*words]
     top = next(it for it in Path(file).parents if (it / "bin/run").exists())
     return [f"{top}/bin/run", file, *words[1:]]

@@ -1,7 +1,8 @@
 """The files that git tracks here, as texts."""
+import re
 import shutil
 import subprocess
-from collections.abc import Iterable
+from collections.abc import Iterable, Iterator
 from pathlib import Path
 
 from nixkeep_dev.build.program import HERE
@@ -20,6 +21,25 @@ def tracked(*patterns: str) -> list[str]:
 
 def text_of(path: str, errors: str = "strict") -> str:
     return Path(f"{HERE}/{path}").read_text("utf-8", errors)
+
+
+def first_line(path: str) -> str:
+    with open(f"{HERE}/{path}", errors="replace") as file:
+        return file.readline().rstrip()
+
+
+def is_script(path: str) -> bool:
+    """Whether a file says by what it is run."""
+    return first_line(path).startswith("#!")
+
+
+def of_language(language: str) -> Iterator[str]:
+    """The tracked files whose name or first line says that they are in `python` or `shell`."""
+    ends, word = {"python": (".py", "python3"), "shell": (".sh", "sh")}[language]
+    for path in tracked():
+        is_program = "." not in Path(path).name and re.match(rf"#!.*\b(ba)?{word}( -\w+)?$", first_line(path))
+        if path.endswith(ends) or is_program:
+            yield path
 
 
 def copy_to(folder: str, but: Iterable[str] = ()) -> None:
