@@ -1,7 +1,8 @@
 """The options and the fixtures of all tests: `pytest` runs all of it, and bin/run one module.
 
-Each file of tests/cases is run once, and each of its steps is a test: `pytest tests/cases/who.txt`. What is marked `needs("curl", ..)` is skipped where one of these isn't installed, and the
-summary (`-rs`) says what. With xdist, `-n auto --dist loadfile` runs files side by side.
+Each file of tests/cases is run once, and each of its steps is a test: `pytest tests/cases/who.txt`. What is marked
+`needs("curl", ..)` is skipped where one of these isn't installed, and the summary (`-rs`) says what. With xdist,
+`-n auto --dist loadfile` runs files side by side.
 """
 import functools
 import os
@@ -16,21 +17,21 @@ import pytest
 
 from nixkeep_dev.build import release
 from nixkeep_dev.build.program import HERE
-from nixkeep_dev.testing import case_items, cases, minutes, report
+from nixkeep_dev.testing import case_items, cases, days, minutes, parts, report
 from nixkeep_dev.testing.libraries import Libraries
-
-# The seeds that a day has for itself.
-A_DAY = 100_000
 
 
 def pytest_addoption(parser):
     add = parser.addoption
     add("--program", metavar="FILE", help="the program; else the one that bin/nixkeep runs")
-    add("--seed", metavar="N", type=int, default=A_DAY * report.today(), help="what chance begins with; else the day")
+    add("--seed", metavar="N", type=int, default=days.A_DAY * report.today(), help="what chance begins with; else the day")
     add("--count", metavar="N", type=int, help="how much is tried; else as much as each test says")
     add("--seconds", metavar="N", type=float, default=cases.SECONDS, help="what a page of cases may take")
     add("--libraries", metavar="FILE", help="the program of crates/bench; else what needs it is skipped")
-    add("--minutes", metavar="N", type=float, default=0, help="how long at least faults/soak.py goes on (0)")
+    add("--minutes", metavar="N", type=float, default=0, help="faults/soak.py: how long at least it goes on; "
+        "gate/sabotage.py: the processor minutes within which one more fault is planted, if not 0")
+    add("--today", action="store_true", help="gate/sabotage.py: the faults of a day, by --seed: all in 8 days")
+    add("--jobs", metavar="N", type=int, default=2, help="gate/sabotage.py: how many faults at a time")
     add("--built", action="store_true", help="what `rt ci` leaves has to be there; else tests of that are skipped")
     add("--lower", action="store_true", help="gate/checks.py: write numbers that are lower to files of gate/")
     add("--raise", action="store_true", help="gate/checks.py: write numbers that are higher to files of gate/")
@@ -107,15 +108,16 @@ def rng(seed) -> random.Random:
     return random.Random(seed)
 
 
-@pytest.fixture(scope="session")
-def count(pytestconfig):
-    """How much is tried, where a command line says it."""
-    return pytestconfig.getoption("--count")
+@pytest.fixture(scope="module")
+def count(request) -> int | None:
+    """How much is tried, where a command line says it. Where it names no module, as much as bin/test tries."""
+    given, is_named = request.config.getoption("--count"), any(".py" in word for word in request.config.args)
+    return given if given is not None or is_named else parts.count_of(request.path)
 
 
-@pytest.fixture(scope="session")
+@pytest.fixture(scope="module")
 def some(seed, count):
-    """Chooses among places where something can go wrong, numbered from 1: `some(total, name)`. All, but for --count."""
+    """Chooses among places where something can go wrong, numbered from 1: `some(total, name)`. All, but for a count."""
     return functools.partial(report.some, seed, count)
 
 

@@ -54,7 +54,11 @@ def whole_part(words):
     """The file that runs a part, and the names that are given to it; the files of cases."""
     if words.part == "cases":
         return [f"{CASES}/{it.removesuffix('.txt')}.txt" for it in words.names] or [CASES]
-    return [file_of(f"gate/{BY_THEMSELVES[words.part]}"), *words.names]
+    names = words.names
+    if words.part == "sabotage" and names:
+        # (a name is some words of the fault's)
+        names = ["-k", " or ".join(f"({' and '.join(it.split())})" for it in names)]
+    return [file_of(f"gate/{BY_THEMSELVES[words.part]}"), *names]
 
 
 def run_part(words, parser):

@@ -6,10 +6,17 @@ from nixkeep_dev.testing import report
 from nixkeep_dev.testing.runs import spent
 
 DAYS = 8
+# The seeds that a day has for itself.
+A_DAY = 100_000
 # The days of wrong bodies and definitions, which take longer.
 DAYS_OF_EDITS = 12
 # A round of the days begins a third further on than the one before.
 ROUNDS = 3
+
+
+def of_seed(seed: int) -> int:
+    """The day that a seed is of; a number below the seeds of the second day is a day itself."""
+    return seed // A_DAY or seed
 
 
 def of_day(items: Iterable, day: int, count: int = DAYS) -> list:

@@ -2,6 +2,7 @@
 import os
 from collections.abc import Callable, Iterable, Sequence
 from concurrent.futures import ThreadPoolExecutor
+from pathlib import Path
 
 from nixkeep_dev.build.program import HERE
 from nixkeep_dev.testing import runs
@@ -71,6 +72,12 @@ def by_name() -> dict[str, dict]:
                     "scripts": file_of("tools/test_package_scripts")},
         "gate": {it: file_of(f"gate/{it}") for it in scripts("gate") if it != "gate"},
     }
+
+
+def count_of(file: Path) -> int | None:
+    """How much is tried of a module where it is one of all and takes minutes; None where it says so itself."""
+    words = {**BOUNDED, **SHORT}.get(runs.name_of([str(file)]), [])
+    return int(words[1]) if words[:1] == ["--count"] else None
 
 
 class Part:
