@@ -15,7 +15,7 @@ from pathlib import Path
 import pytest
 
 from nixkeep_dev.build import program, release
-from nixkeep_dev.sources import bodies, clauses, plants
+from nixkeep_dev.sources import bodies, clauses, plants, recorded
 from nixkeep_dev.testing import answers, days, hints, packages, parts, report, sabotage
 from nixkeep_dev.testing.lowered import Lowered, Raised
 from nixkeep_dev.testing.report import finds_nothing
@@ -161,9 +161,11 @@ def test_survivors():
 
 @finds_nothing
 def test_listed():
-    """tests/gate/plants.txt has an entry for each crate of the product, and no other."""
+    """tests/gate/plants.txt has an entry for each crate of the product, and tests/gate/tried.txt for each crate with
+    wrong bodies, and no other."""
     product = {crate for crate in program.listed() if crate not in clauses.NO_PRODUCT}
     yield from [f"{plants.NAME}: {crate}" for crate in sorted(product ^ plants.listed().keys())]
+    yield from [f"{recorded.NAME}: {crate}" for crate in sorted({*bodies.having()} ^ recorded.listed().keys())]
 
 
 @finds_nothing

@@ -1,7 +1,8 @@
 """Runs `rt ci`, then all that tries the program that it built, and prints what took how long: `gate MINUTES`.
 
 After `rt ci` it compares the bytes of the program with those of release/. Then come, side by side: wrong bodies, and
-after them wrong definitions, those of the mistakes that a store must not make and those of the day; the bodies that `rt
+after them wrong definitions, those of the mistakes that a store must not make, all wrong bodies of the crates that
+tests/gate/tried.txt has with another sum, and those of the day; the bodies that `rt
 plant` makes of the day's crate; the program as `bin/nixkeep` builds it, and as Rattle's own compiler does; the cases,
 comparisons, the tests of the tools, a clean Debian with the package, and a part of each fault script, chosen by the
 day; and the planted faults of the day. At the end is a table of processor minutes: for each crate its proof, its tests
@@ -93,7 +94,8 @@ def try_parts():
 
     def try_edits(name):
         words = ["--gate", "--today", "--seed", str(given["seed"]), "--minutes", str(OF_DAY[name])]
-        return run([file_of(f"gate/{name}"), *words], False, watch.look, EDITS)
+        more = ["--changed"] if name == "wrong_bodies" else []
+        return run([file_of(f"gate/{name}"), *words, *more], False, watch.look, EDITS)
 
     def bodies():
         try:

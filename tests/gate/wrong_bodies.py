@@ -25,17 +25,21 @@ Without an option each crate is checked first without its edits: every function 
 
 With --gate it tries the edits that tests/gate/mistakes.txt names, and with --today a twelfth of the others and of the
 crates that have a control, by --seed, which is the day: all within twelve days. Those of one crate that one check can
-try have the same day. With both options it tries both, in the same checks. With --minutes those of the table are all
-tried, but once these processor minutes are spent none of the others is tried any more: the last lines say how many are
-left out, which counts as skipped. Each twelve days begin with other crates than the twelve days before, so what is left
-out then is tried later.
+try have the same day. With --changed it tries all of the crates that aren't as they were when tests/gate/tried.txt got
+their sums, before the others. With several of these options it tries them together, in the same checks. With --minutes
+those of the table are all tried, but once these processor minutes are spent none of the others is tried any more: the
+last lines say how many are left out, which counts as skipped. Each twelve days begin with other crates than the twelve
+days before, so what is left out then is tried later.
+
+--record, without these options, writes the sums of the crates whose wrong bodies are all refused to
+tests/gate/tried.txt.
 """
 import tempfile
 import time
 from concurrent.futures import ThreadPoolExecutor
 
 from nixkeep_dev.build import program
-from nixkeep_dev.sources import bodies, copies
+from nixkeep_dev.sources import bodies, copies, recorded
 from nixkeep_dev.testing import days, report
 from nixkeep_dev.testing.runs import spent
 
@@ -166,17 +170,26 @@ def show(tried, seconds):
 def more(parser):
     parser.add_argument("--gate", action="store_true", help=f"those that {bodies.MISTAKES} names")
     days.add_to(parser, bodies.DAYS)
+    parser.add_argument("--changed", action="store_true", help=f"those of crates that differ from {recorded.NAME}")
+    parser.add_argument("--record", action="store_true", help=f"write the sums of these crates to {recorded.NAME}")
     parser.add_argument("names", nargs="*", metavar="NAME")
 
 
 def run(words):
     named, names, done = program.listed(), words.names or bodies.having(words.names), []
-    always, chosen, is_part = {*bodies.always()} if words.gate else set(), None, words.gate or words.today
+    always, chosen = {*bodies.always()} if words.gate else set(), None
+    is_part, changed = words.gate or words.today or words.changed, []
     with_equal, bound = [] if is_part else bodies.having_equal(), days.Bound(words.minutes)
+    if is_part and words.record:
+        report.fail("what tries a part records nothing")
     if is_part:
+        changed = recorded.changed_crates(names, named) if words.changed else []
         chosen = always | {*(bodies.others_of_day(words.seed) if words.today else ())}
+        chosen |= {(crate, it.name) for crate, it in bodies.every(True) if crate in changed}
     if words.today:
         names, with_equal = days.in_turn(names, words.seed, bodies.DAYS), bodies.equal_of_day(words.seed)
+    # (so that a bound leaves out others)
+    names = sorted(names, key=lambda it: it not in changed)
 
     def one(crate):
         since = time.monotonic()
@@ -196,6 +209,10 @@ def run(words):
         told = f"{len(empty)} wrong bodies of the day, refused for what they leave out: {', '.join(empty)}"
         report.skip(told, len(empty))
     bound.tell("wrong bodies", count)
+    if words.changed:
+        report.tell(f"changed since {recorded.NAME} got their sums: {' '.join(changed) or 'none of its crates'}")
+    if words.record:
+        recorded.record([it.crate for it in done if not it.wrong], named)
     return sum(len(it.wrong) for it in done)
 
 

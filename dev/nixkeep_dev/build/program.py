@@ -44,11 +44,16 @@ def listed() -> dict[str, list]:
 
 def with_below(crate: str, named: dict[str, list]) -> list[str]:
     """The crates of this repository below one, lowest first, and itself."""
-    found = []
-    for library in named[crate]:
-        if library in named:
-            found += [it for it in with_below(library, named) if it not in found]
-    return [*found, crate]
+    found = {}
+
+    def visit(it):
+        if it in named and it not in found:
+            for library in named[it]:
+                visit(library)
+            found[it] = None
+
+    visit(crate)
+    return [*found]
 
 
 def toolchain() -> str | None:

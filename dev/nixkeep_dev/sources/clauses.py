@@ -3,7 +3,7 @@ import collections
 import re
 from collections.abc import Iterator
 
-from nixkeep_dev.sources import bodies, contracts, plants
+from nixkeep_dev.sources import bodies, contracts, plants, recorded
 from nixkeep_dev.testing.tracked import git, text_of
 
 COLUMNS = 120
@@ -33,7 +33,8 @@ def without_clauses() -> int:
 
 def counted() -> dict[str, float]:
     """How many lines of clauses are long, what part of all clauses has the text of another, in percent, how many wrong
-    bodies survive them, and for how many crates no list says which bodies by `rt plant` do."""
+    bodies survive them, for how many crates no list says which bodies by `rt plant` do, and how many have no sum at
+    which all wrong bodies were refused."""
     found = [lines for path in git("ls-files", "crates/*/src/*.rt") for lines in clauses_in(text_of(path))]
     counts = collections.Counter(" ".join(line.strip() for line in lines) for lines in found)
     repeated = sum(count for count in counts.values() if count > 1)
@@ -44,4 +45,5 @@ def counted() -> dict[str, float]:
             "percent of clauses that are repeated": round(100 * repeated / len(found), 1),
             "public functions without clauses": without_clauses(),
             "wrong bodies that they accept": len(bodies.excused(bodies.SURVIVORS)),
-            "crates whose bodies by rt plant are not recorded": list(plants.listed().values()).count(None)}
+            "crates whose bodies by rt plant are not recorded": list(plants.listed().values()).count(None),
+            "crates whose wrong bodies are not recorded": list(recorded.listed().values()).count(recorded.NOT_RECORDED)}

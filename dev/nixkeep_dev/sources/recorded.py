@@ -1,0 +1,65 @@
+"""The crates whose wrong bodies were all tried as they are now, by the sums of a list in the repository.
+
+The sum of a crate is of what the prover's judgement of its wrong bodies depends on: the crate's own files with its
+edits, and of each crate below what it promises, which is its definitions and its sources without comments and without
+the bodies of functions. So another body below leaves the sum as it is, and another clause or definition doesn't.
+"""
+import functools
+import hashlib
+import re
+from collections.abc import Iterable
+from pathlib import Path
+
+from nixkeep_dev.build import program
+from nixkeep_dev.sources import bodies, functions
+
+NAME, NOT_RECORDED = "tests/gate/tried.txt", "not recorded"
+COMMENT = re.compile(r"^ *//.*\n", re.M)
+
+
+def promised(text: str) -> str:
+    """A file of sources without comments and without the bodies of functions, but for those of constants."""
+    lines = COMMENT.sub("", text).split("\n")
+    for at, line in enumerate(lines):
+        head = line is not None and functions.FUNCTION.match(line)
+        if head and not head[2] and (body := functions.body_of(lines, at)):
+            lines[body[0] + 1 : body[1]] = [None] * (body[1] - body[0] - 1)
+    return "\n".join(it for it in lines if it is not None)
+
+
+def sum_of(crate: str, named: dict[str, list]) -> str:
+    """The sum of a crate of crates.txt."""
+    *below, _ = program.with_below(crate, named)
+    edits = sorted(Path(program.HERE, "crates", crate, "further").glob("*.edit"))
+    own = [*(Path(program.HERE, it) for it in program.files_of(crate)), *edits]
+    texts = [(str(it.relative_to(program.HERE)), it.read_text("utf-8")) for it in own]
+    return hashlib.sha256(repr((texts, [promises_of(it) for it in below])).encode()).hexdigest()
+
+
+@functools.cache
+def promises_of(crate: str) -> str:
+    """The sum of what a crate promises to those above it."""
+    sources = {file: promised(text) for file, text in bodies.sources(crate).items()}
+    texts = sorted({**sources, **bodies.sources(crate, "specs")}.items())
+    return hashlib.sha256(repr((crate, texts)).encode()).hexdigest()
+
+
+def listed() -> dict[str, str]:
+    """What the list has of each crate: the sum at which all of its wrong bodies were refused, or that there is none."""
+    lines = Path(program.HERE, NAME).read_text().splitlines()
+    return dict(it.split(": ") for it in lines if it and not it.startswith("#"))
+
+
+def record(crates: Iterable[str], named: dict[str, list]) -> None:
+    """Writes the present sums of these crates."""
+    path = Path(program.HERE, NAME)
+    comments = [it for it in path.read_text().splitlines() if it.startswith("#")]
+    found = {**listed(), **{it: sum_of(it, named) for it in crates}}
+    path.write_text("\n".join([*comments, *(f"{it}: {found[it]}" for it in sorted(found)), ""]))
+
+
+def changed_crates(crates: Iterable[str], named: dict[str, list]) -> list[str]:
+    """Those of these crates that aren't as they were when the list got their sums, and those that it doesn't name."""
+    found = listed()
+    compared = [it for it in crates if found.get(it) != NOT_RECORDED]
+    return [it for it in compared if found.get(it) != sum_of(it, named)]
