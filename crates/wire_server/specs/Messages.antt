@@ -32,8 +32,8 @@ EndsInside input =
     (h : RequestHead) × (after : List ℕ) × (size : ℕ) × IsHead input h after × (body_length (fields_of h) ≡ Ok size)
     × (length after < size)
 
--- Whether the bytes begin with a message shows only with more of them: no head has come, in fewer bytes than the most of
--- a head, and no line shows that there is none; or they end inside a body.
+-- Whether the bytes begin with a message shows only with more of them: they begin with no head, are fewer than the most
+-- bytes of one, and no line shows that there is none; or they end inside a body.
 abbrev pub AwaitsMore : List ℕ → Type 0
 AwaitsMore bytes = (HasNoRequest bytes × (length bytes < max_head) × ShowsNothing bytes) ⊎ EndsInside bytes
 
