@@ -135,12 +135,12 @@ pub holds_little : (n seen : ℕ) (bytes : List ℕ) → HasNoRequest (take seen
 holds_little n seen bytes none shown short few = record {
   most = omega (arith, few, short);
   head = λ h after is. elim (cases_lt seen (length (print_request h))) [
-    | inl later ↦ omega (arith, few, ap length is.1, length-append (print_request h) after)
+    | inl later ↦ omega (arith, few)
     | inr before ↦ absurd (none h _ (head_in_prefix bytes h after seen is before))
   ];
   line = λ line after shows begun. elim (cases_lt (length line) seen) [
     | inl before ↦ absurd (shown line _ (line_in_prefix bytes line after seen shows.0 before, shows.1) begun)
-    | inr later ↦ omega (arith, few, ap length shows.0, length-append line (10 ∷ after))
+    | inr later ↦ omega (arith, few)
   ];
 }
 
@@ -163,7 +163,7 @@ little_after n bytes head h holds near = record {
   head = λ k after is.
       let same = request_unique bytes h k _ after holds.is_head.reads is in
       let size : length (print_request h) ≡ length (print_request k) = ap (λ x. length (print_request x)) same.0 in
-      omega (arith, near, size, holds.places.len, ap length is.1, length-append (print_request k) after);
+      omega (arith, near, size, holds.places.len);
   line = λ line after shows begun. absurd (no_whole bytes line after shows h _ holds.is_head.reads);
 }
 

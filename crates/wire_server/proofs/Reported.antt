@@ -45,7 +45,7 @@ parts_begin input (message h body ∷ items) (rest, is, p) =
     (rest, is, under (closes h) (items ≡ []) (Parts false rest items) (Begins rest items) (parts_begin rest items) p)
 parts_begin input (faulty fault ∷ items) p = p
 
--- the same where the input may report_end its bytes
+-- the same where the input may show its bytes
 abbrev pub PartsAll : Bool → Option (List ℕ) → List Item → Type 0
 PartsAll whole None items = Unit {0}
 PartsAll whole (Some all) items = Parts whole all items

@@ -55,7 +55,7 @@ pub record KeepsRest (old new : Option (List ℕ)) (left : ℕ) (represents repr
   pub fault : IfErr result IsOfReading
 
 -- The result of one read with room for a number of bytes: how many came and were kept, or none at the end of the input.
--- If it failed, none came.
+-- If the read failed, none came.
 abbrev pub KeepsOn : ℕ → Option (List ℕ) → Option (List ℕ) → (List ℕ → Type 0) → (List ℕ → Type 0)
     → Result ℕ WireError → Type 0
 KeepsOn room old new represents represents' (Ok n) =

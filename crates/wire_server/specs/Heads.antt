@@ -26,7 +26,8 @@ HasNoHead input = (h : RequestHead) (rest : List ℕ) → ¬ (IsHead input h res
 abbrev pub has_begun_in : List ℕ → Bool
 has_begun_in bytes = list_any (λ b. not (b == 13 || b == 10)) bytes
 
--- the input begins with a line, and a line feed, that begin no head, whatever follows them; `after` follows them here
+-- the input begins with a line, or several, and its line feed, and no request begins so, whatever follows; `after`
+-- follows here
 abbrev pub ShowsNoHead : List ℕ → List ℕ → List ℕ → Type 0
 ShowsNoHead input line after = (input ≡ line ++ 10 ∷ after) × NeverHasRequest (line ++ 10 ∷ [])
 

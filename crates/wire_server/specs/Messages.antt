@@ -2,7 +2,7 @@
 use Rattle.std.specs.Prelude.{◌≡◌, ◌⊎◌, ℕ, ◌+◌, ◌<◌, ◌≤◌, max, List, [], ◌++◌, length, Option, Result, Ok, Err, Bool}
 use Rattle.std.specs.Prelude.{true, false, IfOk, IfErr, IfSome, OnOk, IsErr}
 use Rattle.std.specs.Io.KnownBytes.{Consumes, IsAtEnd}
-use Rattle.httparse.specs.Grammar.{RequestHead, ReadsRequest, HasNoRequest}
+use Rattle.httparse.specs.Grammar.{RequestHead, print_request, ReadsRequest, HasNoRequest}
 use Rattle.httparse.specs.declared.Status.{Status}
 use Rattle.httparse.specs.declared.Status.TheVariants.{Complete, Partial}
 use Rattle.wire_server.specs.Heads.{IsHead, HasNoHead, Holds, ShowsNoHead, ShowsNothing, has_begun_in, max_head}
@@ -32,8 +32,8 @@ EndsInside input =
     (h : RequestHead) × (after : List ℕ) × (size : ℕ) × IsHead input h after × (body_length (fields_of h) ≡ Ok size)
     × (length after < size)
 
--- Whether the bytes begin with a message shows only with more of them: they begin with no head, are fewer than the most
--- bytes of one, and no line shows that there is none; or they end inside a body.
+-- More is awaited: the bytes begin with no head, are fewer than the most bytes of one, and no line, but one of line
+-- ends alone, shows that there is none; or they end inside a body.
 abbrev pub AwaitsMore : List ℕ → Type 0
 AwaitsMore bytes = (HasNoRequest bytes × (length bytes < max_head) × ShowsNothing bytes) ⊎ EndsInside bytes
 
@@ -56,7 +56,7 @@ abbrev pub FindsSoon : {T : Type 0} → List ℕ → ℕ → Result T Fault → 
 FindsSoon buf seen result = (line after : List ℕ) → ShowsNoHead buf line after → seen ≤ length line → IsErr result
 
 -- One more read: the bytes that it took, at most 4,096, are appended to those that were held. It took at least one
--- byte, or the input was at its end. If it failed it took none.
+-- byte, or the input was at its end. If the read failed it took none.
 pub record ReadsMore (old new : Option (List ℕ)) (held held' : List ℕ)
     (result : Result Bool WireError) : Type 0 where
   pub consumed : (bs : List ℕ) × Consumes old new bs × OnOk result (held' ≡ held ++ bs)
@@ -74,8 +74,9 @@ HoldsTo n end held = length held ≤ max n (end + 4095)
 -- after a line, more than line ends, that shows that there is none.
 pub record HoldsLittle (n : ℕ) (bytes : List ℕ) : Type 0 where
   pub most : HoldsTo n max_head bytes
-  pub head : (h : RequestHead) (after : List ℕ) → ReadsRequest bytes h after → length after ≤ max n 4095
-  pub line : (line after : List ℕ) → ShowsNoHead bytes line after → has_begun_in line ≡ true → length after ≤ max n 4095
+  pub head : (h : RequestHead) (after : List ℕ) → ReadsRequest bytes h after → HoldsTo n (length (print_request h)) bytes
+  pub line : (line after : List ℕ) → ShowsNoHead bytes line after → has_begun_in line ≡ true
+      → HoldsTo n (length line + 1) bytes
 
 -- How far an input was read where no message begins: to its end, if it ends inside a body; or no further than
 -- `HoldsLittle` says.

@@ -41,8 +41,8 @@ BeginsWith None items = ⊤
 BeginsWith (Some all) items = Begins all items
 
 -- What was read of an input, of which `left` is left: these messages, and at most 4,095 bytes after the last of them.
--- Where no message begins, at most 20,479 bytes were read, and at most 4,095 of them after a head, or after a line that
--- shows that there is none; or all, if the input ends inside a body.
+-- Where no message begins, at most 20,479 bytes were read, and at most 4,095 of them after a head, or after a line,
+-- more than line ends, that shows that there is none; or all, if the input ends inside a body.
 abbrev pub Takes : List ℕ → List Item → List ℕ → Type 0
 Takes input [] left = (ahead : List ℕ) × (input ≡ ahead ++ left) × (length ahead ≤ 4095)
 Takes input (message h body ∷ items) left = (rest : List ℕ) × IsMessage input h body rest × Takes rest items left

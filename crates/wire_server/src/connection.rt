@@ -26,12 +26,13 @@ fn reported(count: u128) -> u64
 /// Answers the messages of an input one after another, up to its end, the first that closes the connection, or an input
 /// that doesn't begin with a message. Returns how many were answered, a number that stays at its greatest value. Except
 /// at `Read` and `Memory`, at most 4,095 bytes after the last message are read. If no message begins there, at most
-/// 20,479 are read, and at most 4,095 of them after what shows it; or all, if the input ends inside a body.
+/// 20,479 are read, and at most 4,095 of them after a head, or after a line that shows it; or all, if the input ends
+/// inside a body.
 ///
 /// # Errors
 ///
-/// `Read` if the reader failed while more was awaited; `Write` if the writer failed, or took no byte; `Memory` if memory
-/// ran out. None after the reply that closes the connection was written.
+/// `Read` if the reader failed while more was awaited; `Write` if the writer failed, or took no byte; `Memory` if
+/// memory ran out. None after the reply that closes the connection was written.
 pub fn serve<R: Read, W: Write, T, A: Responder<T>>(
     alloc: Global,
     input: &mut R,
