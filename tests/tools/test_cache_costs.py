@@ -527,7 +527,7 @@ def test_a_sweep_that_nobody_reads_ends():
     swept = cache_sweep.Sweep(None, None, None, 0, 0.05, "none")
     answer = types.SimpleNamespace(write=lambda _: asyncio.sleep(60))
     with pytest.raises(TimeoutError):
-        asyncio.run(swept.say({}, answer, "line"))
+        asyncio.run(swept.send_line({}, answer, "line"))
 
 
 def test_the_page_of_the_last_day_is_made_once_for_many(folder, monkeypatch):

@@ -60,9 +60,9 @@ class Sweep:
             first = await anext(lines)
             await answer.prepare(request)
             try:
-                await self.say(request, answer, first)
+                await self.send_line(request, answer, first)
                 async for line in lines:
-                    await self.say(request, answer, line)
+                    await self.send_line(request, answer, line)
                 await answer.write_eof()
             except BaseException:
                 # (no other reply can follow one that has begun)
@@ -70,7 +70,7 @@ class Sweep:
                 raise
         return answer
 
-    async def say(self, request, answer, line):
+    async def send_line(self, request: web.Request, answer: web.StreamResponse, line: str) -> None:
         """Writes a line to a reply. A client that takes nothing loses its connection, since others wait for their
         turns."""
         async with of_client(request, self.idle):
