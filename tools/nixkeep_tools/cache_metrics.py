@@ -58,8 +58,11 @@ class Metrics:
         registry.register(self)
 
     def labelled(self, method, route, status):
-        by_route = [it.labels(method, route) for it in (self.seconds, self.received, self.sent)]
-        return self.requests.labels(method, route, status), *by_route
+        """The figures of these requests: those that count one for each, and those of the time and of both bodies."""
+        counts, by_route = [self.requests.labels(method, route, status)], (method, route)
+        if route == "record" and method in READ and status in (200, 404):
+            counts.append(self.lookups.labels("yes" if status == 200 else "no"))
+        return counts, *(it.labels(*by_route) for it in (self.seconds, self.received, self.sent))
 
     def routes(self) -> list[Route]:
         return [Route(READ, TARGET, self.page)]
@@ -67,13 +70,12 @@ class Metrics:
     def observe(self, seen: Seen) -> None:
         if not prometheus_client:
             return
-        requests, seconds, received, sent = self.of(method_of(seen.request), seen.route, seen.status)
-        requests.inc()
+        counts, seconds, received, sent = self.of(method_of(seen.request), seen.route, seen.status)
+        for it in counts:
+            it.inc()
         seconds.observe(seen.seconds)
         received.inc(seen.received)
         sent.inc(seen.sent)
-        if seen.route == "record" and seen.request.method in READ and seen.status in (200, 404):
-            self.lookups.labels("yes" if seen.status == 200 else "no").inc()
 
     def collect(self) -> Iterator[Any]:
         """What Prometheus's own library asks for: the figures of the sources."""
