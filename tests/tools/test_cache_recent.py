@@ -209,6 +209,25 @@ def test_what_voids_records(method, target, status, stays):
     asyncio.run(run())
 
 
+def test_a_connection_on_which_little_is_asked():
+    """It isn't closed as an idle one while clients are answered from memory: now and then the server is asked."""
+    async def run():
+        place = Place(404, 404)
+        place.idle = 100
+        server, ann = cache_server.Server(place, 4, 4), cache_server.Caller("ann", None)
+        recent = cache_recent.Recent(server, types.SimpleNamespace(changes=0))
+        await server.ask(ann, "GET", "/")
+        recent.add("a", b"text", recent.now())
+        assert recent.text("a") == b"text"
+        server.closing.cancel()
+        server.closing = asyncio.get_running_loop().call_later(40, server.close)
+        assert recent.text("a") is None, "after more than half of the time that it may be idle"
+        await server.ask(ann, "GET", "/")
+        assert recent.text("a") == b"text" and server.connections == 1
+
+    asyncio.run(run())
+
+
 def test_the_memory_of_records():
     """It has a bound, and those that were asked for last are in it."""
     server = types.SimpleNamespace(age=lambda: 1)

@@ -121,8 +121,14 @@ class Server:
 
     def age(self) -> tuple[int, int] | None:
         """What was learnt of an object is good while this is the same: each change of the store passes here, since a
-        server has one connection at a time. None where nothing is known."""
-        return (self.connections, self.voided) if self.is_open() and not self.is_deleting else None
+        server has one connection at a time. None where it isn't known, and the server has to be asked."""
+        is_known = self.is_open() and not self.is_deleting and not self.is_quiet()
+        return (self.connections, self.voided) if is_known else None
+
+    def is_quiet(self) -> bool:
+        """Whether the connection would soon be closed as an idle one, although clients ask."""
+        left = self.closing and self.closing.when() - asyncio.get_running_loop().time()
+        return left is not None and left < self.place.idle / 2
 
     async def ask(self, caller: Caller, method: str, target: str, body: bytes = b"") -> Reply:
         """The reply to a request. Raises Unreachable."""
