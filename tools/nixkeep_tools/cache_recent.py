@@ -14,10 +14,12 @@ class Recent:
 
     def __init__(self, server: Server, signing: Signing, most: int = MOST):
         self.server, self.signing, self.most = server, signing, most
-        self.texts, self.size, self.of = collections.OrderedDict(), 0, None
+        # The state of the store that all of these are of.
+        self.of = None
+        self.texts, self.size = collections.OrderedDict(), 0
 
     def now(self) -> tuple | None:
-        """What a record is good for that the server is asked for from now on; None where that isn't known."""
+        """Which state of the store the next reply of the server is of; None where that isn't known."""
         age = self.server.age()
         return None if age is None else (age, self.signing.changes)
 
