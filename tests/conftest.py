@@ -24,7 +24,8 @@ from nixkeep_dev.testing.libraries import Libraries
 def pytest_addoption(parser):
     add = parser.addoption
     add("--program", metavar="FILE", help="the program; else the one that bin/nixkeep runs")
-    add("--seed", metavar="N", type=int, default=days.A_DAY * report.today(), help="what chance begins with; else the day")
+    add("--seed", metavar="N", type=int, default=days.A_DAY * report.today(),
+        help="what chance begins with; else the day")
     add("--count", metavar="N", type=int, help="how much is tried; else as much as each test says")
     add("--seconds", metavar="N", type=float, default=cases.SECONDS, help="what a page of cases may take")
     add("--libraries", metavar="FILE", help="the program of crates/bench; else what needs it is skipped")

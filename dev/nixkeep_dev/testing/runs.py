@@ -72,7 +72,7 @@ def options_of(file: str, given: dict) -> list[str]:
     return [word for name in taken for word in (f"--{name}", str(given[name]))]
 
 
-def name_of(words):
+def name_of(words: Sequence[str]) -> str:
     """A script's path without that of tests/, or the whole of another command."""
     file = words[0].removeprefix(f"{program.HERE}/").removeprefix("tests/").removesuffix(".py")
     return file if "/" in words[0] else " ".join(words)

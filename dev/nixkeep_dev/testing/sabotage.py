@@ -24,7 +24,7 @@ STRICT = ["-O1", "-Wall", "-Wextra", "-Werror"]
 class Fault:
     """A planted fault: its name, what is changed, as pairs of a key and a text, and the part that has to notice it."""
 
-    def __init__(self, name, lines):
+    def __init__(self, name: str, lines: list[tuple[str, str]]):
         self.name, self.changes = name, [it for it in lines if it[0] not in ("part", "excused")]
         named = dict(lines)
         self.part, self.excused = shlex.split(named.get("part", "")), named.get("excused")
