@@ -32,7 +32,7 @@ from nixkeep_dev.bench.figures import limit, main, note, put, skipped, title, ve
 from nixkeep_dev.bench.load import Load
 from nixkeep_dev.bench.nginx import nginx
 from nixkeep_dev.bench.serving import Serving, processor_of
-from nixkeep_dev.testing import report
+from nixkeep_dev.testing import nar, report, stores
 from nixkeep_dev.testing.http_messages import free_port
 
 AWAY, CLIENTS = 10, 64
@@ -123,7 +123,7 @@ def targets_of(file):
     with contextlib.closing(sqlite3.connect(file)) as conn:
         made = conn.execute("SELECT base, hash FROM object").fetchall()
     return {"records": [f"/{path[:32]}.narinfo" for path, _ in made],
-            "archives": [f"/nar/{parts.paths.base32(digest)}/{path}" for path, digest in made]}
+            "archives": [f"/nar/{nar.base32(digest)}/{path}" for path, digest in made]}
 
 
 def measured(folder, copies, wanted, seconds):
@@ -172,7 +172,7 @@ def away(folder, copies, port, targets, seconds):
 
 def put_store(words, folder):
     """Makes the store's file and its configuration."""
-    parts.put_store(f"{folder}/store.db", words.objects, random.Random(1), 3)
+    stores.put_store(f"{folder}/store.db", words.objects, random.Random(1), 3)
     Path(f"{folder}/store.toml").touch()
 
 

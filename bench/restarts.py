@@ -20,7 +20,7 @@ from pathlib import Path
 import parts
 from nixkeep_dev.bench.figures import limit, main, note, skipped, title
 from nixkeep_dev.bench.nginx import nginx
-from nixkeep_dev.testing import report
+from nixkeep_dev.testing import report, stores
 
 # What the unit has.
 RESTART = 1
@@ -147,7 +147,7 @@ def begin(words):
     if stopped in words.parts and skipped("nginx"):
         words.parts.remove(stopped)
     Path(f"{words.folder}/store.toml").touch()
-    return parts.put_store(f"{words.folder}/store.db", 1000 if words.quick else 10_000, random.Random(1), 3)
+    return stores.put_store(f"{words.folder}/store.db", 1000 if words.quick else 10_000, random.Random(1), 3)
 
 
 if __name__ == "__main__":

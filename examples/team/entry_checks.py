@@ -11,8 +11,9 @@ from concurrent.futures import ThreadPoolExecutor
 from pathlib import Path
 from typing import Any
 
+import by_nix
 import parts
-from parts import body, check, nar, paths, same
+from parts import body, check, same
 
 
 def tls(site: Any) -> None:
@@ -95,15 +96,15 @@ def slow_uploads(site: Any) -> None:
     more of the first user waits."""
     trusted, build = ssl.create_default_context(cafile=f"{site.etc}/tls/ca.pem"), site.user("build")
     login = base64.b64encode(b"build:build-secret").decode()
-    archive, held = nar.regular_file(bytes(200_000)), []
-    name = paths.base32(paths.sha256([archive]))
+    archive, held = by_nix.archive(bytes(200_000)), []
+    name = by_nix.digest(archive)
     head = f"PUT /nar/{name}.nar HTTP/1.1\r\nhost: red.localhost\r\nauthorization: Basic {login}\r\n"
     for _ in range(8):
         plain = socket.create_connection(("127.0.0.1", site.port))
         held.append(trusted.wrap_socket(plain, server_hostname="red.localhost"))
         held[-1].sendall(f"{head}content-length: {len(archive)}\r\n\r\n".encode() + archive[:1000])
-    more = nar.regular_file(b"more" * 5_000_000)
-    put = lambda: build("PUT", f"/nar/{paths.base32(paths.sha256([more]))}.nar", more)[0]
+    more = by_nix.archive(b"more" * 5_000_000)
+    put = lambda: build("PUT", f"/nar/{by_nix.digest(more)}.nar", more)[0]
     with ThreadPoolExecutor(1) as pool:
         ninth = pool.submit(put)
         for at in range(4):
@@ -170,8 +171,8 @@ def half_asked(site: Any) -> None:
 def forms_of_large(site: Any) -> None:
     """A large archive: nginx keeps its record for old and new Nix apart, and odd ranges are answered whole."""
     ann, build = site.user("ann"), site.user("build")
-    archive = nar.regular_file(bytes(17_000_000))
-    path, digest = f"/nix/store/{'7' * 32}-large", paths.nar_hash(paths.sha256([archive]))
+    archive = by_nix.archive(bytes(17_000_000))
+    path, digest = f"/nix/store/{'7' * 32}-large", by_nix.nar_hash(archive)
     given = body(("path", path), ("nar-hash", digest), payload=archive)
     same("a trusted user imports a large archive", build("POST", "/import", given)[0], 200)
     record = lambda agent: ann("GET", f"/{path[11:43]}.narinfo", None, "-H", f"user-agent: {agent}")[1].decode()

@@ -11,11 +11,12 @@ import shutil
 import signal
 import socket
 import sqlite3
+import string
 import subprocess
 import sys
 import tempfile
 import time
-from collections.abc import Callable, Collection, Iterable
+from collections.abc import Callable, Iterable
 from pathlib import Path
 from typing import Any, NoReturn, Self
 
@@ -27,7 +28,7 @@ TOOLS = f"{ROOT}/tools" if IS_CHECKOUT else "/usr/lib/nixkeep"
 PROGRAM = f"{ROOT}/bin/nixkeep" if IS_CHECKOUT else "/usr/bin/nixkeep"
 sys.path.insert(0, TOOLS)
 sys.dont_write_bytecode = True
-from nixkeep_tools import nar, paths, store_file
+from nixkeep_tools import store_file
 
 # The Debian package of a tool that has another name.
 PACKAGES = {"nginx": "nginx-light", "nix": "nix-bin", "nix-store": "nix-bin", "htpasswd": "apache2-utils",
@@ -213,24 +214,7 @@ class Unit(Part):
 
 
 def some_path(rng: random.Random, name: str) -> str:
-    return f"/nix/store/{paths.base32(rng.randbytes(20))}-{name}"
-
-
-def put_store(file: str, count: int, rng: random.Random, roots: int, label: str = "/proc/1/exe") -> list[str]:
-    """A file with `count` texts that refer to one another, and for each of three users `roots` roots and twelve
-    generations."""
-    with contextlib.closing(sqlite3.connect(file)) as conn, conn:
-        put_tables(conn, 3)
-        made = put_objects(conn, count, rng)
-        for user in ("ann", "bob", "carol"):
-            rows = [(user, f"root{at}", rng.choice(made)) for at in range(roots)]
-            conn.executemany("INSERT INTO user_root VALUES (?, ?, ?)", rows)
-            conn.execute("INSERT INTO profile VALUES (?, 'tools', 9)", (user,))
-            rows = [(user, at, rng.choice(made)) for at in range(1, 13)]
-            conn.executemany("INSERT INTO generation VALUES (?, 'tools', ?, ?)", rows)
-        conn.execute("INSERT INTO permanent VALUES ('release', ?)", (made[-1],))
-        conn.execute("INSERT INTO runtime VALUES (?, ?)", (label, made[0]))
-    return made
+    return f"/nix/store/{''.join(rng.choices(string.digits, k=32))}-{name}"
 
 
 def put_tables(conn: sqlite3.Connection, schema: int) -> None:
@@ -241,26 +225,6 @@ def put_tables(conn: sqlite3.Connection, schema: int) -> None:
         keys = ", ".join(it.split()[0] for it in columns[:key])
         conn.execute(f"CREATE TABLE {table} ({', '.join(written)}, PRIMARY KEY ({keys})) STRICT")
     conn.executemany("INSERT INTO meta VALUES (?, ?)", [("schema", str(schema)), ("store-dir", "/nix/store")])
-
-
-def put_text(conn: sqlite3.Connection, name: str, contents: bytes, references: Collection[str] = ()) -> str:
-    """The rows of a text. Returns its path."""
-    digest = paths.sha256([contents])
-    path, archive = paths.path_of("text", digest, name, references), nar.regular_file(contents)
-    address = paths.address("text", digest)
-    conn.execute("INSERT INTO object VALUES (?, ?, ?, NULL, ?)", (path, archive, paths.sha256([archive]), address))
-    conn.executemany("INSERT INTO refs VALUES (?, ?)", [(path, it) for it in references])
-    return path
-
-
-def put_objects(conn, count, rng):
-    """Rows of texts, each with references to some of those before. Returns their paths."""
-    made = []
-    for at in range(count):
-        contents = rng.randbytes(rng.choice([10, 100, 1000]))
-        references = sorted(set(rng.choices(made[-400:], k=rng.randrange(5)))) if made else []
-        made.append(put_text(conn, f"object-{at}", contents, references))
-    return made
 
 
 class Nix:

@@ -11,9 +11,10 @@ from pathlib import Path
 from typing import Any
 
 import ban_checks
+import by_nix
 import entry_checks
 import parts
-from parts import body, check, nar, paths, same
+from parts import body, check, same
 
 # Longer than anything is kept.
 MINUTE = 62
@@ -23,8 +24,8 @@ OTHER_SITE = (403, b"denied: other-site\n")
 
 def imported(user, path, archive):
     """An object without a content address is imported."""
-    digest = paths.nar_hash(paths.sha256([archive]))
-    return user("POST", "/import", body(("path", path), ("nar-hash", digest), payload=archive))[0]
+    given = body(("path", path), ("nar-hash", by_nix.nar_hash(archive)), payload=archive)
+    return user("POST", "/import", given)[0]
 
 
 def kept_for_a_minute(site):
@@ -37,7 +38,7 @@ def kept_for_a_minute(site):
     same("a closure is uploaded", copied(host, "--to", url), 0)
     same("and fetched, so nginx has its records and archives",
          copied(ann.nix("kept-desk"), "--from", ann.url), 0)
-    old, new = nar.regular_file(b"old"), nar.regular_file(b"other")
+    old, new = by_nix.archive(b"old"), by_nix.archive(b"other")
     same("an object is imported", imported(build, other, old), 200)
     address = ann.archive(other)
     same("and read twice", [ann("GET", address)[1] for _ in range(2)], [old] * 2)
@@ -61,8 +62,8 @@ def kept_for_a_minute(site):
 def file_of(build, rng):
     """A file is uploaded by itself. Returns its name, and how HEAD answers a target."""
     head = lambda target: int(parts.curl(*build.words, "-I", f"{build.url}{target}", "-o", "/dev/null")[0])
-    archive = nar.regular_file(rng.randbytes(1000))
-    name = f"/nar/{paths.base32(paths.sha256([archive]))}.nar"
+    archive = by_nix.archive(rng.randbytes(1000))
+    name = f"/nar/{by_nix.digest(archive)}.nar"
     same("a file that wasn't sent isn't there", head(name), 404)
     same("it is sent", build("PUT", name, archive)[0], 201)
     same("then it is there", head(name), 200)
@@ -73,7 +74,7 @@ def compressed(site):
     """Archives are compressed for who reads that, and nginx keeps both forms apart."""
     # (one who reads no archive before: that dan may connect is kept for a minute as well, and then the store is asked)
     dan, server = site.user("dan", "green"), site.servers["green"]
-    archive = nar.regular_file(contents := b"a line\n" * 50_000)
+    archive = by_nix.archive(contents := b"a line\n" * 50_000)
     path = dan.add("compressed", contents)
     target, zstd = dan.archive(path), ("-H", "accept-encoding: zstd", "--compressed")
     raw = lambda *words: len(dan("GET", target, None, *words)[1])
@@ -99,7 +100,7 @@ def large(site):
     name, part = ann.archive(made[-1]), ann("GET", ann.archive(made[-1]), None, "-H", "range: bytes=5-14")
     same("a range of one", (part[0], part[1] == ann("GET", name)[1][5:15]), (206, True))
     same("a stranger gets none", site.user("eve")("GET", name)[0], 403)
-    digits = paths.base32(paths.sha256([host.archive(made[-1])]))
+    digits = by_nix.digest(host.archive(made[-1]))
     same("who isn't trusted sends none", ann("PUT", f"/nar/{digits}.nar", host.archive(made[-1]))[1],
          b"denied: trusted-import\n")
     words = [f"{parts.TOOLS}/nixkeep-cache", "verify", "--blobs", f"{site.folder}/lib/red/blobs"]
@@ -207,7 +208,7 @@ def collected_meanwhile(site):
     bob, build, rng = site.user("bob"), site.user("build"), random.Random(8)
     first, second = parts.some_path(rng, "first"), parts.some_path(rng, "second")
     there = parts.some_path(rng, "there")
-    same("an object is in the store", imported(build, there, nar.regular_file(b"there")), 200)
+    same("an object is in the store", imported(build, there, by_nix.archive(b"there")), 200)
     head = [parts.curl(*build.words, "-I", f"{build.url}/{it[11:43]}.narinfo", "-o", "/dev/null")[0]
             for it in (there, first, second)]
     same("a client asks for it, and for two that aren't there", head, [200, 404, 404])
@@ -222,8 +223,8 @@ def collected_meanwhile(site):
 
 def uploaded(user, path, contents, *references):
     """An object is uploaded as Nix does it: the status of its record."""
-    archive = nar.regular_file(contents)
-    digest = paths.base32(paths.sha256([archive]))
+    archive = by_nix.archive(contents)
+    digest = by_nix.digest(archive)
     user("PUT", f"/nar/{digest}.nar", archive)
     lines = [("StorePath", path), ("URL", f"nar/{digest}.nar"), ("Compression", "none"), ("NarSize", len(archive)),
              ("NarHash", f"sha256:{digest}"), ("References", " ".join(references))]

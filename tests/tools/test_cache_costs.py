@@ -16,7 +16,7 @@ from pathlib import Path
 import pytest
 
 import parts
-from nixkeep_dev.testing import nar
+from nixkeep_dev.testing import nar, stores
 from nixkeep_tools import blob_packing, cache, cache_ending, cache_large, cache_records, cache_shares, cache_sweep, drv
 from nixkeep_tools import cache_changes, cache_http, cache_limit, cache_listings, cache_metrics, cache_names
 from nixkeep_tools import cache_overview, cache_passing, cache_room, cache_server, cache_uploads, cache_watched
@@ -646,7 +646,7 @@ def by_zstd(data, window):
 def test_readers_have_the_memory_in_which_an_archive_is_unpacked(folder):
     """What an archive asks for while it is unpacked counts as what its reader has. Thus the readers of one that asks
     for much don't fill the memory. What is sent as it is takes no such memory."""
-    from nixkeep_tools import blobs_folder, cache_blobs, paths, pointers
+    from nixkeep_tools import blobs_folder, cache_blobs, pointers
 
     found, place = {}, blobs_folder.Folder(f"{folder}/blobs")
     place.begin()
@@ -662,12 +662,12 @@ def test_readers_have_the_memory_in_which_an_archive_is_unpacked(folder):
     request = types.SimpleNamespace(if_none_match=(), headers={}, method="GET")
     for window in (20, 25):
         archive = nar.archive(bytes(window) * 100_000)
-        data, digest = by_zstd(archive, window), paths.sha256([archive])
-        name = paths.base32(digest)
+        data, digest = by_zstd(archive, window), nar.sha256(archive)
+        name = nar.base32(digest)
         with open(part := place.part(), "wb") as out:
             out.write(data)
         assert place.put(part, name)
-        pointer = pointers.Pointer("/nix/store/x", digest, len(archive), paths.sha256([data]), len(data))
+        pointer = pointers.Pointer("/nix/store/x", digest, len(archive), nar.sha256(data), len(data))
         for form in ("none", "zstd"):
             with pytest.raises(ConnectionResetError):
                 asyncio.run(kept.send(request, pointer, form))
@@ -832,9 +832,9 @@ def test_a_copy_of_many_references(folder):
     for count in (0, 300):
         file, made = f"{folder}/references{count}.db", []
         with contextlib.closing(sqlite3.connect(file)) as conn, conn:
-            parts.put_tables(conn, 3)
+            stores.put_tables(conn, 3)
             for at in range(600):
-                made.append(parts.put_text(conn, "it", b"%d" % at, sorted(made[-count:]) if count else ()))
+                made.append(stores.put_text(conn, "it", b"%d" % at, sorted(made[-count:]) if count else ()))
         code = f"import sys; sys.path.insert(0, {parts.TOOLS!r})\nfrom nixkeep_tools import backup_file\n"
         for given in ([f"{parts.TOOLS}/nixkeep-explain", file], ["-c", f"{code}backup_file.rows({file!r})"]):
             ran = subprocess.run(["/usr/bin/python3", "-B", "-c", PEAK, *given], capture_output=True, text=True)

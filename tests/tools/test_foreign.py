@@ -8,7 +8,7 @@ import pytest
 
 from nixkeep_dev.build.program import HERE
 from nixkeep_dev.testing import nar
-from nixkeep_tools import blob_reading, blobs, http_client, objects, paths, pointers, real_nix
+from nixkeep_tools import blob_reading, blobs, http_client, objects, pointers, real_nix
 from nixkeep_tools.failures import Stop
 from tests.tools import replies
 from tests.tools.servers import answering, ran
@@ -299,7 +299,7 @@ def test_a_blob_without_an_end(more):
     more = {"zeros": bytes(1000), "frames": pack(bytes(1 << 20)), "frames of nothing": pack(b"")}[more]
     file, digest = pack(ARCHIVE), lambda data: hashlib.sha256(data).digest()
     made = pointers.Pointer("/nix/store/x", digest(ARCHIVE), len(ARCHIVE), digest(file), len(file))
-    name = paths.base32(made.nar_hash)
+    name = nar.base32(made.nar_hash)
     for form in blob_reading.FORMS:
         with pytest.raises(blob_reading.Damaged):
             for _ in blob_reading.pieces(Endless(len(file), file, more), name, made, form):

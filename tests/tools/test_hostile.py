@@ -18,7 +18,7 @@ import pytest
 
 import parts
 from nixkeep_dev.build.program import HERE
-from nixkeep_tools import nar, paths
+from nixkeep_dev.testing import nar
 from tests.tools.logins import BOTH, deployed
 from tests.tools.team_try import TEAM
 
@@ -306,8 +306,8 @@ def test_a_failed_login_takes_as_long_for_each_name(name, site):
 @pytest.fixture(scope="module")
 def large(site):
     """The targets of an archive of 100 MB, by which it is sent as it is."""
-    archive = nar.regular_file(bytes(100_000_000))
-    path, digest = f"/nix/store/{'6' * 32}-large", paths.nar_hash(paths.sha256([archive]))
+    archive = nar.archive(bytes(100_000_000))
+    path, digest = f"/nix/store/{'6' * 32}-large", nar.nar_hash(archive)
     given = parts.body(("path", path), ("nar-hash", digest), payload=archive)
     assert site.user("build")("POST", "/import", given)[0] == 200
     return f"/nar/{path[11:]}", f"/large/{digest.removeprefix('sha256:')}/none/{path[11:]}"

@@ -8,6 +8,7 @@ from pathlib import Path
 import pytest
 
 import parts
+from nixkeep_dev.testing import nar
 from tests.tools.logins import SOCKET, deployed
 from tests.tools.team_try import TEAM
 
@@ -147,8 +148,8 @@ def test_what_one_user_reads_is_no_other_users(site):
 
 def test_large_archives_pass(site):
     """An upload above the limit for bodies, and its archive."""
-    archive = parts.nar.regular_file(bytes(22_000_000))
-    path, digest = f"/nix/store/{'7' * 32}-large", parts.paths.nar_hash(parts.paths.sha256([archive]))
+    archive = nar.archive(bytes(22_000_000))
+    path, digest = f"/nix/store/{'7' * 32}-large", nar.nar_hash(archive)
     given = parts.body(("path", path), ("nar-hash", digest), payload=archive)
     assert site.user("build")("POST", "/import", given)[0] == 200
     assert site.user("ann")("GET", f"/nar/{path[11:]}")[1] == archive

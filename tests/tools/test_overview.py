@@ -17,7 +17,7 @@ from pathlib import Path
 import pytest
 
 import parts
-from nixkeep_dev.testing import nar
+from nixkeep_dev.testing import nar, stores
 from nixkeep_tools import overview, overview_source, store_file
 from parts import body
 from tests.tools import servers
@@ -86,7 +86,7 @@ def most():
 def large():
     """The file of a store with 10,000 objects, and the path of its first."""
     with tempfile.TemporaryDirectory() as folder:
-        yield f"{folder}/large.db", parts.put_store(f"{folder}/large.db", 10_000, random.Random(1), 60, HOSTILE)[0]
+        yield f"{folder}/large.db", stores.put_store(f"{folder}/large.db", 10_000, random.Random(1), 60, HOSTILE)[0]
 
 
 def ran(*words):
@@ -125,7 +125,7 @@ def test_8_000_roots_in_bounded_work_of_the_processor(folder):
     """The figures are those of a walk from each of some of them."""
     from nixkeep_tools import overview_page
 
-    parts.put_store(f"{folder}/roots.db", 10_000, random.Random(3), 2_667)
+    stores.put_store(f"{folder}/roots.db", 10_000, random.Random(3), 2_667)
     store = overview_source.of_file(f"{folder}/roots.db")
     began = time.process_time()
     figures = overview.Overview(store)
@@ -180,7 +180,7 @@ def site(program):
     with tempfile.TemporaryDirectory() as folder:
         config, file = f"{folder}/red.toml", f"{folder}/store.db"
         Path(config).write_text('allowed-users = ["ann"]\ntrusted-users = ["build"]\n')
-        made = parts.put_store(file, 40, random.Random(2), 3, HOSTILE)
+        made = stores.put_store(file, 40, random.Random(2), 3, HOSTILE)
         with parts.server(program, folder, config, file) as server, \
                 parts.cache(folder, server.place, None, "--proxied", "--config", config) as cache:
             yield Site(server, cache, made)
