@@ -74,7 +74,8 @@ HoldsTo n end held = length held ≤ max n (end + 4095)
 -- after a line, more than line ends, that shows that there is none.
 pub record HoldsLittle (n : ℕ) (bytes : List ℕ) : Type 0 where
   pub most : HoldsTo n max_head bytes
-  pub head : (h : RequestHead) (after : List ℕ) → ReadsRequest bytes h after → HoldsTo n (length (print_request h)) bytes
+  pub head : (h : RequestHead) (after : List ℕ) → ReadsRequest bytes h after
+      → HoldsTo n (length (print_request h)) bytes
   pub line : (line after : List ℕ) → ShowsNoHead bytes line after → has_begun_in line ≡ true
       → HoldsTo n (length line + 1) bytes
 
