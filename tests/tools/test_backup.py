@@ -18,7 +18,6 @@ import subprocess
 import time
 from pathlib import Path
 
-import parts
 import pytest
 
 from nixkeep_dev.build.program import HERE
@@ -227,7 +226,8 @@ def test_what_a_stopped_copy_has_left(store, good):
 @contextlib.contextmanager
 def at_work(words, is_begun, env=None):
     """nixkeep-backup, once it has begun something."""
-    with subprocess.Popen([BACKUP, *words], stderr=subprocess.PIPE, text=True, env={**os.environ, **(env or {})}) as made:
+    seen = {**os.environ, **(env or {})}
+    with subprocess.Popen([BACKUP, *words], stderr=subprocess.PIPE, text=True, env=seen) as made:
         while made.poll() is None and not is_begun():
             time.sleep(0.05)
         yield made

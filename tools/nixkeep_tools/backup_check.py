@@ -46,7 +46,7 @@ def swap():
     return 0
 
 
-def refuse_large(text, unit):
+def refuse_large(text: str, unit: str) -> None:
     """Raises Stop if a server with the archives of this report may not fit into its memory."""
     size, (limit, whose) = int(backup_file.TOTAL.search(text)[2]), memory_of(unit)
     if size > limit * OPENS:

@@ -6,6 +6,7 @@ import os
 import shutil
 import stat
 import time
+from typing import BinaryIO
 
 from . import backup_file, explain_file, stopping, store_file
 from .count_of import count_of
@@ -84,7 +85,7 @@ def opened(folder, within=None):
         os.close(number)
 
 
-def fill(name, folder, source):
+def fill(name: str, folder: int, source: BinaryIO) -> None:
     """Makes a file of what `source` has in an open folder, for the folder's account."""
     seen = os.fstat(folder)
     with contextlib.suppress(FileNotFoundError):

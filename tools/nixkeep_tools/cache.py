@@ -133,8 +133,8 @@ def fair(most):
 
 
 def together(middlewares):
-    """One middleware for many, the first of which is the outermost. For each of its own aiohttp copies the attributes of
-    a function at each request."""
+    """One middleware for many, the first of which is the outermost. For each of its own, aiohttp copies the attributes
+    of a function at each request."""
 
     @web.middleware
     async def answered(request, handler):

@@ -116,7 +116,7 @@ def unreadable(path: str, error: Exception) -> str:
 # ---- locks
 
 
-def of_locks(path, what):
+def of_locks(path: str, what: str) -> list[Reason]:
     with open(path, "rb") as file:
         pid = store_file.locker(file)
     if pid is None:

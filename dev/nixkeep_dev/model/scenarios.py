@@ -236,7 +236,7 @@ class Scenarios(Commands):
         key = [tables.columns_of(name).index(it) for it in tables.TABLES[name][1].split(", ")]
         return [row[at] for at in key] == [other[at] for at in key]
 
-    def changed(self, value, kind, by):
+    def changed(self, value: object, kind: str, by: Choices) -> object:
         if kind == "INTEGER":
             return by.pick([0, 1, 2, -1, 9999, 10_000, 4_194_304, 4_194_305, value + 1])
         if kind == "BLOB":

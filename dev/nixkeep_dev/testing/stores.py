@@ -1,4 +1,4 @@
-"""Files of stores with many texts, whose rows are written by SQLite. The paths, archives and digests are the model's."""
+"""Files of stores with many texts, whose rows SQLite writes. The paths, archives and digests are the model's."""
 import contextlib
 import random
 import sqlite3
