@@ -421,6 +421,20 @@ def test_a_damaged_page_of_each_frame(folder, logged):
             assert min(commits, 3) == 3 - objects, frame
 
 
+@pytest.mark.parametrize("more", [b"", b"\0" * 24, b"own"])
+def test_a_log_with_holes(more, logged):
+    """It is said at once: a log of terabytes may have no more than a frame on the disk."""
+    path, whole = logged
+    count = (1 << 40) // 4120
+    with open(f"{path}-wal", "r+b") as log:
+        log.truncate(32 + 4120 * count)
+        # (a frame of the log's own salt at its end, which ends a commit)
+        frame = bytes(4) + b"\1" * 4 + whole[16:24] + bytes(8) if more == b"own" else more
+        os.pwrite(log.fileno(), frame, 32 + 4120 * (count - 1))
+    used = sum(whole[at + 8:at + 16] == whole[16:24] for at in range(32, len(whole), 4120))
+    assert by_itself(path) == ((count - used, 1) if more == b"own" else (0, 0))
+
+
 def from_sqlite(folder, path):
     """What has to be said of the log of a file, and its objects: SQLite says how many frames count."""
     with open(path + "-wal", "rb") as file:

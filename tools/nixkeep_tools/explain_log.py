@@ -13,15 +13,29 @@ Ignored = collections.namedtuple("Ignored", "frames commits")
 
 
 def frames(log, used):
-    """Yields for each whole frame of a log after the first `used` ones whether it has the log's salt, and whether it
-    ends a commit. A page isn't read, and no frame is kept: a log may be as long as its writer likes."""
-    head, size = os.pread(log.fileno(), HEAD, 0), os.fstat(log.fileno()).st_size
+    """Yields for whole frames of a log after the first `used` ones the number of those since then up to this one,
+    whether it has the log's salt, and whether it ends a commit. A page isn't read, no frame is kept, and those that
+    aren't on the disk are passed over: a log may be as long as its writer likes."""
+    number, head, size = log.fileno(), os.pread(log.fileno(), HEAD, 0), os.fstat(log.fileno()).st_size
     if not (page := store_file.page_of_log(head)):
         return
-    step = BEFORE_PAGE + page
-    for at in range(HEAD + used * step, size - step + 1, step):
-        frame = os.pread(log.fileno(), BEFORE_PAGE, at)
-        yield frame[8:16] == head[16:24], frame[4:8] != bytes(4)
+    start, step = HEAD + used * (BEFORE_PAGE + page), BEFORE_PAGE + page
+    at = start
+    while at + step <= size:
+        frame = os.pread(number, BEFORE_PAGE, at)
+        if not any(frame):
+            at += (data_after(number, at, size) - at) // step * step
+            frame = os.pread(number, BEFORE_PAGE, at)
+        at += step
+        if at <= size:
+            yield (at - start) // step, frame[8:16] == head[16:24], frame[4:8] != bytes(4)
+
+
+def data_after(number, at, size):
+    """The place at or after `at` from which on a file has bytes on the disk, or its size."""
+    with contextlib.suppress(OSError):
+        return os.lseek(number, at, os.SEEK_DATA)
+    return size
 
 
 def ignored(path):
@@ -31,11 +45,10 @@ def ignored(path):
     count only if a frame of the log's own salt follows.
     """
     used = max((count for _, _, count in store_file.commits(path)), default=0)
-    count = commits = 0
-    left = Ignored(0, 0)
+    commits, left = 0, Ignored(0, 0)
     with contextlib.suppress(OSError), store_file.opened(store_file.log_of(path)) as log:
-        for is_own, is_commit in frames(log, used):
-            count, commits = count + 1, commits + is_commit
+        for count, is_own, is_commit in frames(log, used):
+            commits += is_commit
             left = Ignored(count, commits) if is_own else left
     return left
 
