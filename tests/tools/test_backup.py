@@ -16,6 +16,7 @@ import signal
 import sqlite3
 import subprocess
 import time
+import types
 from pathlib import Path
 
 import pytest
@@ -221,6 +222,28 @@ def test_what_a_stopped_copy_has_left(store, good):
     fcntl.flock(opened, fcntl.LOCK_EX)
     fails(store.copy(), "another copy is being made", store, good)
     os.close(opened)
+
+
+def test_a_copy_leaves_room(store, monkeypatch):
+    """A store on the same disk goes on: 64 MB are left (docs/OPERATING.md, A full disk)."""
+    free, real, to = [0], os.statvfs, f"{store.to}/new.db"
+    seen = lambda it: types.SimpleNamespace(f_blocks=1, f_frsize=4096, f_bavail=free[0]) if it == store.to else real(it)
+    monkeypatch.setattr(os, "statvfs", seen)
+    with pytest.raises(Stop, match="failed: room: .* has 0 bytes left"):
+        backup_file.copy(store.file, to)
+    os.unlink(to)
+    pages = os.stat(store.file).st_size + os.stat(f"{store.file}-wal").st_size
+    free[0] = ((64 << 20) + pages) // 4096 + 1
+    backup_file.copy(store.file, to)
+    assert backup_file.rows(to)[0] == 6
+
+
+def test_a_log_of_a_copy_that_is_damaged(folder):
+    """It is a line."""
+    for it in ("new.db", "new.db-wal"):
+        Path(folder, it).write_text("none")
+    with pytest.raises(Stop, match="^failed: copy: .* is not a database$"):
+        backup_file.fold(f"{folder}/new.db")
 
 
 @contextlib.contextmanager

@@ -142,7 +142,7 @@ def add_copy_by(words, make):
     limit(words.seconds)
     try:
         name, deleted = backup_folder.add(words.to, lambda path: counted.extend(make(words, path)))
-    except (Stop, OSError) as error:
+    except (Stop, OSError, MemoryError) as error:
         note_failure(words.state, line_of(error))
         raise
     finally:
@@ -159,6 +159,8 @@ def line_of(error):
     """The line of a failure."""
     if isinstance(error, Stop):
         return error.line
+    if isinstance(error, MemoryError):
+        return "failed: memory"
     return f"failed: file: {error}" if isinstance(error, store_file.Locked) else (
         f"failed: {error.filename or 'file'}: {reason(error)}")
 
@@ -194,10 +196,8 @@ def main(words: list[str]) -> int:
     except Stop as stop:
         streams.say(f"nixkeep-backup: {stop.line}")
         return stop.status
-    except OSError as error:
+    except (OSError, MemoryError) as error:
         streams.say(f"nixkeep-backup: {line_of(error)}")
     except KeyboardInterrupt:
         return 130
-    except MemoryError:
-        streams.say("nixkeep-backup: failed: memory")
     return FAILED

@@ -16,6 +16,8 @@ from .failures import REFUSED, Stop, reason
 
 HERE = Path(__file__).resolve().parents[1]
 PAGES = 1_000
+# The bytes that a copy leaves of its disk, which may be that of the store: docs/OPERATING.md, A full disk.
+LEFT = 64 << 20
 TOTAL = re.compile(r"^total +(\d{1,18}) +(\d{1,18})$", re.A | re.M)
 
 
@@ -72,11 +74,21 @@ def open_copy(path):
     return sqlite3.connect(f"file:{store_file.quoted(path)}?mode=rw", uri=True, isolation_level=None)
 
 
+def demand_room(conn, folder):
+    """Raises Stop where a copy of the store of a connection would leave so little room that a store can't go on."""
+    pages, size = (conn.execute(f"PRAGMA {it}").fetchone()[0] for it in ("page_count", "page_size"))
+    seen = os.statvfs(folder)
+    # (some file systems don't say how large they are)
+    if seen.f_blocks and (free := seen.f_bavail * seen.f_frsize) < pages * size + LEFT:
+        raise Stop(f"failed: room: {folder} has {free} bytes left, too few for a copy of {pages * size} bytes")
+
+
 def copy(path: str, to: str) -> None:
     """Copies a store file with the changes in its log into one new file. It never writes or makes the store's own."""
     try:
         create(to)
         with store_file.open_store(path) as conn, contextlib.closing(open_copy(to)) as target:
+            demand_room(conn, os.path.dirname(os.path.abspath(to)))
             # (between two parts a signal is seen, such as that of the time limit)
             conn.backup(target, pages=PAGES, progress=lambda *_: None)
     except FileNotFoundError:
@@ -90,11 +102,14 @@ def copy(path: str, to: str) -> None:
 def fold(path: str) -> None:
     """Brings a log into its file, so that the copy is one file."""
     log = Path(f"{path}-wal")
-    if log.exists():
-        with contextlib.closing(open_copy(path)) as conn:
-            conn.execute("PRAGMA wal_checkpoint(TRUNCATE)")
-    if log.exists() and not log.stat().st_size:
-        log.unlink()
+    try:
+        if log.exists():
+            with contextlib.closing(open_copy(path)) as conn:
+                conn.execute("PRAGMA wal_checkpoint(TRUNCATE)")
+        if log.exists() and not log.stat().st_size:
+            log.unlink()
+    except (OSError, sqlite3.Error) as error:
+        raise Stop(f"failed: copy: {path}: {reason(error)}") from None
 
 
 # ---- tests
