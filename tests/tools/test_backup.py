@@ -19,10 +19,10 @@ import time
 import types
 from pathlib import Path
 
+import parts
 import pytest
 
 from nixkeep_dev.build.program import HERE
-from nixkeep_dev.testing import stores
 from nixkeep_dev.testing.store import killed
 from nixkeep_tools import as_owner, backup_check, backup_file, backup_folder, backup_restore, http_client, objects
 from nixkeep_tools import store_file, store_size
@@ -226,14 +226,17 @@ def test_what_a_stopped_copy_has_left(store, good):
 
 def test_a_copy_leaves_room(store, monkeypatch):
     """A store on the same disk goes on: 64 MB are left (docs/OPERATING.md, A full disk)."""
-    free, real, to = [0], os.statvfs, f"{store.to}/new.db"
+    free, real, to = [1 << 20], os.statvfs, f"{store.to}/new.db"
     seen = lambda it: types.SimpleNamespace(f_blocks=1, f_frsize=4096, f_bavail=free[0]) if it == store.to else real(it)
     monkeypatch.setattr(os, "statvfs", seen)
-    with pytest.raises(Stop, match="failed: room: .* has 0 bytes left"):
+    backup_file.copy(store.file, to)
+    least = (os.stat(to).st_size + (64 << 20)) // 4096
+    os.unlink(to)
+    free[0] = least - 1
+    with pytest.raises(Stop, match=f"failed: room: .* has {4096 * free[0]} bytes left"):
         backup_file.copy(store.file, to)
     os.unlink(to)
-    pages = os.stat(store.file).st_size + os.stat(f"{store.file}-wal").st_size
-    free[0] = ((64 << 20) + pages) // 4096 + 1
+    free[0] = least
     backup_file.copy(store.file, to)
     assert backup_file.rows(to)[0] == 6
 
@@ -249,16 +252,16 @@ def test_a_log_of_a_copy_that_is_damaged(folder):
 @contextlib.contextmanager
 def at_work(words, is_begun, env=None):
     """nixkeep-backup, once it has begun something."""
-    seen = {**os.environ, **(env or {})}
-    with subprocess.Popen([BACKUP, *words], stderr=subprocess.PIPE, text=True, env=seen) as made:
+    made = subprocess.Popen([BACKUP, *words], stderr=subprocess.PIPE, text=True, env={**os.environ, **(env or {})})
+    with made:
         while made.poll() is None and not is_begun():
             time.sleep(0.05)
         yield made
 
 
 def test_the_end_of_a_test(store, good):
-    """A test that is killed, as where memory runs out, and a copy that is told to end: each is in the state, and
-    leaves nothing."""
+    """A test that is killed, as where memory runs out, and a copy that a signal ends: each is in the state, and leaves
+    nothing."""
     program = Path(store.folder, "program")
     words = [*store.options("copy"), "--db", store.file, "--to", store.to, "--state", store.state, "--program", program]
     reason = lambda: json.loads(Path(store.state).read_text())["reason"]
@@ -795,8 +798,8 @@ def test_a_restore_of_what_a_service_has_left(names, store, restored):
 def of_schema_1(file):
     """A file of schema 1 with a text, whose path this is."""
     with contextlib.closing(sqlite3.connect(file)) as conn, conn:
-        stores.put_tables(conn, 1)
-        return stores.put_text(conn, "old", b"old")
+        parts.put_tables(conn, 1)
+        return parts.put_text(conn, "old", b"old")
 
 
 def test_a_copy_before_a_migration(program, folder):

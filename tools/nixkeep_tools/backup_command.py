@@ -83,7 +83,7 @@ def add_restore(actions):
 
 
 def limit(seconds):
-    """Stops the run with a line once it takes that long, or is told to end: so it leaves no half of a copy."""
+    """Stops the run with a line once it takes that long, or a signal ends it: so it leaves no half of a copy."""
 
     def ring(*_):
         raise Stop(f"failed: time: it took more than {seconds} seconds")
