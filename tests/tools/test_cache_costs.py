@@ -334,6 +334,38 @@ def test_records_of_an_archive_that_waits(program, folder):
         assert int(re.search(r"VmHWM:\s*(\d+)", status)[1]) < 200_000, "KiB"
 
 
+def test_bodies_that_wait_have_room():
+    """A user may have thousands that wait for one another, each with a body that isn't long."""
+    going_on = []
+
+    class Request(dict):
+        content_length, method, transport, raw_path = 40_000, "PUT", None, "/text"
+
+        def __init__(self, user):
+            super().__init__(caller=cache_server.Caller(user, None))
+            left = [bytes(self.content_length), b""]
+            self.content = types.SimpleNamespace(readany=lambda: asyncio.sleep(0, left.pop(0)))
+
+    async def waits(request, *_):
+        going_on.append(request["caller"].user)
+        await asyncio.sleep(60)
+
+    async def run():
+        uploads, passing = cache_uploads.Uploads(*[None] * 10), cache_passing.Passing(*[None] * 8)
+        uploads.records, passing.coming = cache_room.Room(20 * 3 * 40_000), cache_room.Room(20 * 40_000)
+        uploads.idle = passing.idle = 60
+        uploads.recorded, look = waits, lambda caller, _: waits({"caller": caller})
+        users = ["ann"] * 30 + ["bob"]
+        tasks = [asyncio.ensure_future(uploads.record(Request(it), "")) for it in users]
+        tasks += [asyncio.ensure_future(passing.request(Request(it), look)) for it in users]
+        await asyncio.sleep(0.5)
+        for it in tasks:
+            it.cancel()
+
+    asyncio.run(run())
+    assert (going_on.count("ann"), going_on.count("bob")) == (20, 2)
+
+
 def test_long_records_are_read_in_a_thread():
     """Others go on meanwhile: here the reading of one ends only once they have."""
     others, uploads = threading.Event(), cache_uploads.Uploads(*[None] * 10)

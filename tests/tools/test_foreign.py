@@ -110,6 +110,15 @@ def test_replies(monkeypatch):
         stops(store(url).takes_large, f"more than {BYTES} bytes")
 
 
+@pytest.mark.needs("python3-aiohttp", "python3-jinja2")
+def test_an_overview_of_a_server_without_an_end():
+    """Nothing of its reply is read. (nixkeep-cache reads the replies of its server in the same way)"""
+    with answering(lambda *_: text(200, None)) as url:
+        place = url.removeprefix("http://")
+        status, _, said = ran([f"{HERE}/tools/nixkeep-overview", "--store", place, "--user", "ann"])
+    assert status == 1 and b"a reply of %d bytes" % (1 << 40) in said and said.count(b"\n") == 1
+
+
 CHUNKED = replies.reply("transfer-encoding: chunked", text=b"1\r\nx\r\n0\r\n")
 ENDLESS = {"interim replies": (b"", b"HTTP/1.1 100 Continue\r\n\r\n"),
            "fields after the last chunk": (CHUNKED, b"a: b\r\n"),

@@ -19,8 +19,9 @@ Handler = Callable[[web.Request], Awaitable[web.StreamResponse]]
 READ = ("GET", "HEAD")
 # The limit of the server.
 BODY = 20_971_520
-# The bytes from which on a body or a reply counts as large, and the bytes of a reply that are sent at once.
-LARGE, PIECE = 65_536, 1 << 18
+# The bytes from which on a reply, or what is read, counts as large, and the bytes of a reply that are sent at once. And
+# those from which on a body needs room: a user may have thousands that wait for one another.
+LARGE, PIECE, SMALL = 65_536, 1 << 18, 4096
 # The room that a reply has while the server makes it, which may be an archive.
 UNKNOWN = nar.LIMIT
 

@@ -5,7 +5,7 @@ from collections.abc import Awaitable, Callable
 from aiohttp import web
 
 from . import cache_changes
-from .cache_http import BODY, LARGE, Route, Sending, body, is_gone, passed, reply
+from .cache_http import BODY, SMALL, Route, Sending, body, is_gone, passed, reply
 from .cache_limit import Limit
 from .cache_listings import Listings
 from .cache_names import Names
@@ -49,7 +49,7 @@ class Passing:
             return reply(404, "refused: 39 no-route\n")
         if size > BODY:
             return reply(400, "refused: 38 too-large\n")
-        async with self.coming.taken(request, size if size > LARGE else 0) as held:
+        async with self.coming.taken(request, size if size > SMALL else 0) as held:
             given = await body(request, BODY, self.idle, held)
             cache_changes.note(request, given)
             looked = await look(request["caller"], given) if look else None

@@ -29,8 +29,9 @@ REPEATED = re.compile(r"GET .*|POST /(text|source|import|temp/[^/]+/[0-9]+)")
 DELETES = ("/collect", "/delete")
 # The least status of a reply by which the server fails: what it said before may be true no more.
 FAILED = 500
-# The bytes of a reply that are read ahead. A head is much shorter.
-AHEAD = 1 << 20
+# The bytes of a reply that are read ahead. A head is much shorter. And those of the longest reply: a listing of millions
+# of paths is shorter.
+AHEAD, LONGEST = 1 << 20, 1 << 30
 # What a connection that ends, or isn't the server's, raises.
 BROKEN = (OSError, EOFError, ValueError, KeyError, IndexError, asyncio.LimitOverrunError)
 # The requests that go out together where many are asked at once, and the bytes of a large body that do.
@@ -74,7 +75,9 @@ async def read_reply(reader: asyncio.StreamReader) -> tuple[Reply, bool]:
     """The next reply, and whether the server closes the connection after it."""
     head = (await reader.readuntil(b"\r\n\r\n")).decode("latin-1").split("\r\n")
     fields = dict(line.lower().split(": ", 1) for line in head[1:] if line)
-    text = await reader.readexactly(int(fields["content-length"]))
+    if (size := int(fields["content-length"])) > LONGEST:
+        raise ValueError(f"a reply of {size} bytes")
+    text = await reader.readexactly(size)
     return Reply(int(head[0].split(" ")[1]), fields["content-type"], text), fields.get("connection") == "close"
 
 

@@ -8,7 +8,7 @@ from aiohttp import web
 
 from . import cache_changes, cache_records, cache_waiting
 from .cache_archives import RECORD
-from .cache_http import LARGE, UNKNOWN, Route, body, passed, pieces, reply
+from .cache_http import LARGE, SMALL, UNKNOWN, Route, body, passed, pieces, reply
 from .cache_large import Large
 from .cache_limit import Limit
 from .cache_names import Names
@@ -23,8 +23,8 @@ from .cache_turns import Turns
 
 # The longest record: as many references as an object may have, each of a long name.
 INFO = 1_200_000
-# The archives that are unpacked at once, the bytes of long records in memory, and how many times one is there: as it
-# came, its fields, and the head of an import.
+# The archives that are unpacked at once, the bytes of records in memory, and how many times one is there: as it came,
+# its fields, and the head of an import.
 MANY, RECORDS, TIMES = 8, 64 << 20, 3
 ARCHIVE, OTHER = re.compile(r"/nar/(.*)"), re.compile(r".*")
 
@@ -56,7 +56,7 @@ class Uploads:
     async def record(self, request: web.Request, digits: str) -> web.Response:
         """The archive that waits for this record is imported with what it says."""
         size = min(request.content_length or 0, INFO)
-        async with self.records.taken(request, TIMES * size if size > LARGE else 0) as held:
+        async with self.records.taken(request, TIMES * size if size > SMALL else 0) as held:
             text = await body(request, INFO, self.idle, held)
             if text is None:
                 raise Bad(f"a record has at most {INFO} bytes")
