@@ -29,8 +29,8 @@ REPEATED = re.compile(r"GET .*|POST /(text|source|import|temp/[^/]+/[0-9]+)")
 DELETES = ("/collect", "/delete")
 # The least status of a reply by which the server fails: what it said before may be true no more.
 FAILED = 500
-# The bytes of a reply that are read ahead. A head is much shorter. And those of the longest reply: a listing of millions
-# of paths is shorter.
+# The bytes of a reply that are read ahead, of which a head has few, and those of the longest one: a listing of millions
+# of paths has less.
 AHEAD, LONGEST = 1 << 20, 1 << 30
 # What a connection that ends, or isn't the server's, raises.
 BROKEN = (OSError, EOFError, ValueError, KeyError, IndexError, asyncio.LimitOverrunError)

@@ -69,7 +69,7 @@ class Uploads:
         async with self.reading.turn(user):
             return await asyncio.get_running_loop().run_in_executor(None, work, *words)
 
-    async def recorded(self, request, digits, text):
+    async def recorded(self, request: web.Request, digits: str, text: bytes) -> web.Response:
         caller = request["caller"]
         record = await self.read(caller.user, cache_records.fields, text)
         cache_changes.note(request, f"path: {record['StorePath']}\n\n".encode())
