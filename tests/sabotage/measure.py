@@ -10,7 +10,7 @@ def more(parser):
 
 
 def run(words):
-    copies, file, costs = sabotage.Copies(words.folder), report.program_file(words), {}
+    file, copies, costs = report.program_file(words), sabotage.Copies(words.folder), {}
     for part in sorted(sabotage.parts_of_table()):
         if words.names and not any(name in " ".join(part) for name in words.names):
             continue
