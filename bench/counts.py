@@ -101,7 +101,7 @@ def memory(run, words, folder):
     for what in (0, 3, 30, "deriver"):
         paths = [filled(run, f"{folder}/held-{it}-{what}.db", it, 200, 3 if what == "deriver" else what)
                  for it in (few, many)]
-        ends[what] = [held(run, words.ahead, derived(it) if what == "deriver" else it) for it in paths]
+        ends[what] = [held(run, words.ahead, derived(path) if what == "deriver" else path) for path in paths]
     pages, each = ({it: (more[at] - less[at]) / (many - few) for it, (less, more) in ends.items()} for at in (0, 1))
     title(f"memory of the index from {few:,} to {many:,} objects that are open, apart from pages")
     limit("for each object without a reference", each[0], 400, "bytes")

@@ -162,8 +162,8 @@ def day(run, words, folder):
     show(made, took)
 
 
-def options(asked):
-    asked.add_argument("--seed", type=int, default=1, metavar="N", help="what chance begins with [1]")
+def options(parser):
+    parser.add_argument("--seed", type=int, default=1, metavar="N", help="what chance begins with [1]")
 
 
 if __name__ == "__main__":

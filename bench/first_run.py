@@ -46,7 +46,7 @@ def clone(folder, commit):
 def ticks(processors):
     """The ticks that these processors have been busy, and all of them, since the machine started."""
     rows = re.findall(r"^cpu(\d+) (.*)", Path("/proc/stat").read_text(), re.M)
-    found = [[int(it) for it in row.split()[:8]] for number, row in rows if int(number) in processors]
+    found = [[int(word) for word in row.split()[:8]] for number, row in rows if int(number) in processors]
     whole = sum(map(sum, found))
     return whole - sum(row[3] + row[4] for row in found), whole
 
@@ -114,17 +114,17 @@ def main():
     parser.add_argument("--processors", type=int, metavar="N", help="how many processors may be used")
     parser.add_argument("--at", default="HEAD", metavar="COMMIT", help="what to clone, by default the last commit")
     parser.add_argument("--folder", help="where the clone is made, and stays; one that is there is used again")
-    asked = parser.parse_args()
-    processors = bind(asked.processors)
+    words = parser.parse_args()
+    processors = bind(words.processors)
     with tempfile.TemporaryDirectory(prefix="nixkeep-first-run-") as room:
-        folder = str(Path(asked.folder or f"{room}/nixkeep").absolute())
+        folder = str(Path(words.folder or f"{room}/nixkeep").absolute())
         is_new = not Path(folder).exists()
         if is_new:
-            clone(folder, asked.at)
+            clone(folder, words.at)
         is_well = (not is_new or answer_released(folder)) and run(folder, processors)
     if not is_well:
         sys.exit("bench/first_run.py: the command didn't answer as README.md says")
-    ended(asked)
+    ended(words)
 
 
 if __name__ == "__main__":

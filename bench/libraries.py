@@ -185,7 +185,7 @@ def arrivals(ours, words, folder):
 
 def arrival(ours, path, piece, most):
     lines = ours("arrivals", "time", piece, str(ROUNDS), path=path).decode().splitlines()
-    digest, came, answered = zip(*([int(it) / 1e9 for it in line.split()] for line in lines))
+    digest, came, answered = zip(*([int(word) / 1e9 for word in line.split()] for line in lines))
     versus("what comes", digest, came, 1.2, "one digest")
     versus("all that is asked of it", digest, answered, most, "one digest")
     kind, held = ours("arrivals", "hold", piece, path=path).decode().splitlines()

@@ -120,9 +120,9 @@ def by_curl(run, files, path, objects):
 
 
 def by_nix(nix, files, objects):
-    named = lambda words, at: [files(it, at) if it == "new" else it for it in words]
+    named = lambda words, at: [files(word, at) if word == "new" else word for word in words]
     found = by(objects, lambda it, at: (named(it.theirs, at), None), nix.env)
-    left = sum(it != ".links" for it in os.listdir(nix.place(STORE)))
+    left = sum(name != ".links" for name in os.listdir(nix.place(STORE)))
     report.same("what is left of a collection by Nix", left, objects - objects // 2)
     return found
 
@@ -304,8 +304,8 @@ def begin(words):
     return run
 
 
-def more(asked):
-    asked.add_argument("--large", action="store_true", help="100,000 objects too")
+def more(parser):
+    parser.add_argument("--large", action="store_true", help="100,000 objects too")
 
 
 if __name__ == "__main__":

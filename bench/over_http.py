@@ -64,7 +64,7 @@ def loads(words, server, target, clients=1):
     with server:
         count, seconds = (1, 1) if words.quick else (ROUNDS, 3)
         runs = [Load(server.port, target, clients, seconds) for _ in range(count)]
-    if wrong := sum(it.wrong for it in runs):
+    if wrong := sum(run.wrong for run in runs):
         note(f"{wrong} requests weren't answered with 200")
     return runs
 
@@ -82,7 +82,7 @@ def record_in(run, folder, path):
 
 
 def each(runs):
-    return [it.each for it in runs]
+    return [run.each for run in runs]
 
 
 def small(run, words, folder):
@@ -105,7 +105,7 @@ def show_clients(count, ours, theirs):
     if not all(it.rate for it in ours):
         return note("no reply came in some round")
     for peer, of_peer in theirs.items():
-        rates = [[it.rate for it in runs] for runs in (of_peer, ours)]
+        rates = [[run.rate for run in runs] for runs in (of_peer, ours)]
         versus("requests", *rates, None, f"{peer}, a file", max, "a second")
     # (a client that waits for its turn isn't in percentiles of those that are answered)
     limit("how long a client waits on average", [count / it.rate for it in ours], None)
@@ -203,7 +203,7 @@ def bytewise(run, words, folder):
 def begin(words):
     os.mkdir(f"{words.folder}/files")
     if skipped("wrk"):
-        words.parts = [it for it in words.parts if it not in (small, clients, large_out)]
+        words.parts = [part for part in words.parts if part not in (small, clients, large_out)]
     else:
         skipped("nginx")
     return program(words)

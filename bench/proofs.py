@@ -41,9 +41,9 @@ def spent(pid):
 def lines_of(ran, said):
     """The names that a check prints, each with the processor seconds until then; adds the other lines to those said."""
     for line in ran.stdout:
-        told = re.match(r"checked (.*), \d+ of \d+$", line)
-        if told:
-            yield told[1], spent(ran.pid)
+        checked = re.match(r"checked (.*), \d+ of \d+$", line)
+        if checked:
+            yield checked[1], spent(ran.pid)
         else:
             said.append(line)
 
@@ -106,7 +106,7 @@ def asked(named):
     half = max(1, proving.processors() // 2)
     parser.add_argument("--at-once", type=int, default=half, metavar="N", help="how many crates are checked at once")
     words = parser.parse_args()
-    if unknown := [it for it in words.crates if it not in named]:
+    if unknown := [crate for crate in words.crates if crate not in named]:
         parser.error(f"crates.txt has no crate {' '.join(unknown)}")
     return words
 

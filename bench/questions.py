@@ -55,7 +55,7 @@ def referrers(run, words, folder):
         limit("POST /delete, which is denied", denied(server.client), MOST)
         # (each group has eleven objects, which are deleted together, and of these every other one has no root)
         bodies = [lines(("path", base((2 * at + 1) * GROUP))) for at in range(ROUNDS)]
-        done = [timed(server.client.ask, "POST", "/delete", it) for it in bodies]
+        done = [timed(server.client.ask, "POST", "/delete", body) for body in bodies]
         limit("POST /delete, of it and of these", done, MOST)
 
 

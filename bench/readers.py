@@ -74,7 +74,7 @@ def processor(copies):
 
 def asked(folder, port, targets, seconds):
     """A run of wrk, which asks for these in turn."""
-    Path(f"{folder}/targets").write_text("".join(f"{it}\n" for it in targets))
+    Path(f"{folder}/targets").write_text("".join(f"{target}\n" for target in targets))
     Path(f"{folder}/ask.lua").write_text(LUA.format(file=f"{folder}/targets"))
     return Load(port, clients=CLIENTS, seconds=seconds, script=f"{folder}/ask.lua")
 
@@ -220,9 +220,9 @@ def three(_, words, folder):
     copies_of(words, 3)
 
 
-def options(asked):
-    asked.add_argument("--objects", type=int, default=10_000, metavar="N", help="of the store [10000]")
-    asked.add_argument("--seconds", type=int, default=10, metavar="S", help="how long each run takes [10]")
+def options(parser):
+    parser.add_argument("--objects", type=int, default=10_000, metavar="N", help="of the store [10000]")
+    parser.add_argument("--seconds", type=int, default=10, metavar="S", help="how long each run takes [10]")
 
 
 def begin(words):

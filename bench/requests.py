@@ -68,8 +68,8 @@ def added_twice(run, path, folder):
     """Seconds of 1,000 adds, and of the same made again, by a server that reads them of a file: no client is waited
     for."""
     texts = [text_body(number) for number in range(1000)]
-    asked = [("root", "GET", "/roots"), *[("root", "POST", "/text", body) for body in [*texts, *texts]]]
-    Path(f"{folder}/messages").write_bytes(messages(asked))
+    requests = [("root", "GET", "/roots"), *[("root", "POST", "/text", body) for body in [*texts, *texts]]]
+    Path(f"{folder}/messages").write_bytes(messages(requests))
     words, came, times = [run.file, "--db", path, "serve"], 0, []
     with open(f"{folder}/messages", "rb") as given, \
             subprocess.Popen(words, stdin=given, stdout=subprocess.PIPE) as server:
@@ -114,13 +114,13 @@ def walks(run, words, folder):
     versus("a collection of 3,048 of 5,000 objects", *found, 4, "deletes by C SQLite")
 
 
-def deletes(run, path, numbers, *asked):
+def deletes(run, path, numbers, *requests):
     """Rounds of deletes of these objects by C SQLite, and of the request that makes them."""
     theirs, ours = [], []
     for _ in range(ROUNDS):
         theirs.append(delete(copied(path), numbers))
         with served(run, copied(path)) as server:
-            ours.append(timed(server.client.ask, "POST", *asked))
+            ours.append(timed(server.client.ask, "POST", *requests))
     return theirs, ours
 
 
@@ -139,7 +139,7 @@ def looks(run, words, folder):
     with served(run, path) as server:
         for what, targets in (("GET /info/{path}", [f"/info/{base(number)}" for number in range(0, 10_000, 5)]),
                               ("GET /paths", ["/paths"] * 10), ("GET /roots, where there is none", ["/roots"] * 2000)):
-            each = rounds(lambda: [server.client.get(it) for it in targets])
+            each = rounds(lambda: [server.client.get(target) for target in targets])
             limit(what, [it / len(targets) for it in each], None)
 
 
@@ -230,7 +230,7 @@ def added(run, digest, nar, what, path):
 
 
 def begin(words):
-    words.parts = [it for it in words.parts if not words.quick or it in (walks, removals, looks)]
+    words.parts = [part for part in words.parts if not words.quick or part in (walks, removals, looks)]
     return program(words)
 
 

@@ -142,8 +142,8 @@ def side_by_side(request) -> Iterator[Callable]:
     `side_by_side(name, call)` gives has the running call of each value, whose `result` waits for it."""
     with ThreadPoolExecutor(len(os.sched_getaffinity(0))) as pool:
         def begin(name, call):
-            given = [it.callspec.params for it in request.session.items
-                     if it.path == request.path and hasattr(it, "callspec")]
+            given = [item.callspec.params for item in request.session.items
+                     if item.path == request.path and hasattr(item, "callspec")]
             return {value: pool.submit(call, value) for value in dict.fromkeys(it[name] for it in given if name in it)}
 
         yield begin

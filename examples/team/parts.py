@@ -58,12 +58,12 @@ def end() -> NoReturn:
 
 
 def script(doc: str, what: str, run: Callable[[argparse.Namespace], object], *needed: str,
-           more: Callable[[argparse.ArgumentParser], object] = lambda asked: None) -> None:
+           more: Callable[[argparse.ArgumentParser], object] = lambda parser: None) -> None:
     """Runs a script with its words, and a folder among them, and ends it; all of it is skipped without these tools."""
-    asked = argparse.ArgumentParser(description=doc, formatter_class=argparse.RawDescriptionHelpFormatter)
-    asked.add_argument("--program", default=PROGRAM, metavar="FILE")
-    more(asked)
-    words = asked.parse_args()
+    parser = argparse.ArgumentParser(description=doc, formatter_class=argparse.RawDescriptionHelpFormatter)
+    parser.add_argument("--program", default=PROGRAM, metavar="FILE")
+    more(parser)
+    words = parser.parse_args()
     words.program = str(Path(words.program).absolute())
     if subprocess.run([words.program, "--help"], stdout=subprocess.DEVNULL).returncode:
         sys.exit(f"{words.program} can't be run")
@@ -90,8 +90,8 @@ def skipped(what: str, *needed: str) -> bool:
 def place_of(tool: str) -> str | bool | None:
     if tool.startswith("python3-"):
         # (to load one may take half a second)
-        asked = "import importlib.util, sys; sys.exit(not importlib.util.find_spec(sys.argv[1]))"
-        return subprocess.run(["/usr/bin/python3", "-c", asked, tool[8:]], capture_output=True).returncode == 0
+        source = "import importlib.util, sys; sys.exit(not importlib.util.find_spec(sys.argv[1]))"
+        return subprocess.run(["/usr/bin/python3", "-c", source, tool[8:]], capture_output=True).returncode == 0
     return shutil.which(tool) or shutil.which(tool, path="/usr/sbin")
 
 
@@ -139,11 +139,11 @@ class Part:
 
     def lines(self) -> list[str]:
         """The lines of its log, without the records of who changed what."""
-        return [it for it in Path(self.log).read_text().splitlines() if not it.startswith("{")]
+        return [line for line in Path(self.log).read_text().splitlines() if not line.startswith("{")]
 
     def records(self) -> list[dict]:
         """The records of who changed what in its log."""
-        return [json.loads(it) for it in Path(self.log).read_text().splitlines() if it.startswith("{")]
+        return [json.loads(line) for line in Path(self.log).read_text().splitlines() if line.startswith("{")]
 
     __enter__ = start
 
@@ -205,7 +205,7 @@ class Unit(Part):
     def server(self) -> int:
         """The process number of the server, which is the only child, or None while it starts."""
         with open(f"/proc/{self.running.pid}/task/{self.running.pid}/children") as file:
-            return next((int(it) for it in file.read().split()), None)
+            return next((int(word) for word in file.read().split()), None)
 
     def kill_server(self) -> None:
         """Kills the server as a machine does that is out of memory."""
@@ -221,8 +221,8 @@ def put_tables(conn: sqlite3.Connection, schema: int) -> None:
     """The tables of a schema, without any object."""
     for table in [it for it in store_file.FORMS if it not in store_file.LACKS[schema]]:
         columns, key = store_file.FORMS[table]
-        written = [it[:-2] if it.endswith(" ?") else f"{it} NOT NULL" for it in columns]
-        keys = ", ".join(it.split()[0] for it in columns[:key])
+        written = [column[:-2] if column.endswith(" ?") else f"{column} NOT NULL" for column in columns]
+        keys = ", ".join(column.split()[0] for column in columns[:key])
         conn.execute(f"CREATE TABLE {table} ({', '.join(written)}, PRIMARY KEY ({keys})) STRICT")
     conn.executemany("INSERT INTO meta VALUES (?, ?)", [("schema", str(schema)), ("store-dir", "/nix/store")])
 
@@ -272,7 +272,7 @@ class Nix:
             refs = sorted({path, *made[-1:], *references})
             lines += [path, hashlib.sha256(archive).hexdigest(), str(len(archive)), "", str(len(refs)), *refs]
             made.append(path)
-        self("nix-store", "--load-db", given="".join(f"{it}\n" for it in lines).encode())
+        self("nix-store", "--load-db", given="".join(f"{line}\n" for line in lines).encode())
         return made
 
     def closure(self, count: int, seed: int = 1, word: str = "text") -> list[str]:
@@ -284,8 +284,8 @@ class Nix:
 
 def curl(*words: str, given: bytes | None = None) -> tuple[int, bytes]:
     """The status and the text of a reply; the status is 0 where none came."""
-    told = ["-s", "--max-time", "330", "-w", "\n%{http_code}", "-H", "expect:"]
-    ran = subprocess.run(["curl", *told, *words], input=given, capture_output=True)
+    options = ["-s", "--max-time", "330", "-w", "\n%{http_code}", "-H", "expect:"]
+    ran = subprocess.run(["curl", *options, *words], input=given, capture_output=True)
     text, _, status = ran.stdout.rpartition(b"\n")
     return int(status or 0), text
 

@@ -114,8 +114,8 @@ def forgotten(site, name, head):
     """The file is deleted as one that has waited for too long."""
     server = site.servers["red"]
     server.end()
-    for it in Path(f"{site.folder}/lib/red/waiting").glob(f"{name[5:]}*"):
-        it.unlink()
+    for path in Path(f"{site.folder}/lib/red/waiting").glob(f"{name[5:]}*"):
+        path.unlink()
     server.start()
     same("a file that waits no longer is gone, so that it is sent again", head(name), 404)
 
@@ -166,14 +166,14 @@ def logged(site):
     site.user("eve")("GET", f"/{'1' * 32}.narinfo")
     # (a line is written after its reply)
     parts.until("five lines", lambda: Path(file).read_bytes()[size:].count(b"\n") >= 5)
-    lines = [json.loads(it) for it in Path(file).read_bytes()[size:].decode().splitlines()]
-    came = [(it["status"], it["login"], it["user"]) for it in lines]
+    lines = [json.loads(line) for line in Path(file).read_bytes()[size:].decode().splitlines()]
+    came = [(line["status"], line["login"], line["user"]) for line in lines]
     same("the log has the user that was used, and logins that failed, and nothing of who names nobody", came,
          [(401, "failed", ""), (404, "", "ann"), (200, "", "carol"), (404, "", "ann"), (403, "", "eve")])
     same("a long target is cut", lines[1]["target"], long[:300])
-    same("and the subject of a certificate", [it["subject"] for it in lines if it["subject"]], ["CN=carol,O=red"])
+    same("and the subject of a certificate", [line["subject"] for line in lines if line["subject"]], ["CN=carol,O=red"])
     same("a target is logged as it came", lines[3]["target"], forged)
-    failed = [it for it in Path(file).read_text().splitlines(True) if json.loads(it)["login"] == "failed"]
+    failed = [line for line in Path(file).read_text().splitlines(True) if json.loads(line)["login"] == "failed"]
     ban_checks.counted(file, len(failed))
     ban_checks.banned(site, failed[-1])
 

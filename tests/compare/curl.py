@@ -199,10 +199,10 @@ class Curl:
     def __init__(self, folder):
         self.folder = folder
 
-    def __call__(self, port, asked, *more, output=None, status=0):
+    def __call__(self, port, made, *more, output=None, status=0):
         """Asks in one run of curl; gives the reply to each, and what curl says of its doing."""
         config, files = [], []
-        for at, (user, method, target, body) in enumerate(asked):
+        for at, (user, method, target, body) in enumerate(made):
             head, text, sent = (Path(f"{self.folder}/{at}.{it}") for it in ("head", "text", "sent"))
             files.append((head, text))
             # (curl makes no file where nothing comes)
@@ -240,37 +240,37 @@ def test_each_route_is_asked():
     fixed = [it for name in glob.glob(f"{HERE}/crates/*/specs/Table.antt")
              for it in re.findall(r'codes "(/[^"]+)"', Path(name).read_text())]
     same("the routes of the reference, next to those that are defined", sorted(routes()), sorted(fixed))
-    asked = [*requests()]
+    made = [*requests()]
     for pattern, methods in routes().items():
         for method in methods:
-            is_asked = any(it.method == method and fits(pattern, it.target) for it in asked)
+            is_asked = any(it.method == method and fits(pattern, it.target) for it in made)
             report.right(f"{method} {pattern}", None if is_asked else "it isn't asked here")
 
 
 def test_routes(program, folder, curl):
     """Each request over one connection, over one of its own, and by a command."""
-    asked = [*requests()]
+    made = [*requests()]
     Path(config := f"{folder}/store.toml").write_text(CONFIG)
     options, stores = ["--config", config], [Store(program, f"{folder}/{it}.db") for it in ("commands", "one", "each")]
     over_one, over_each = ask_twice(program, options, folder, curl,
-                                    [(it.user, it.method, it.target, it.body) for it in asked])
+                                    [(it.user, it.method, it.target, it.body) for it in made])
     options += ["--group", "users"]
-    for it, one, each in zip(asked, over_one, over_each):
+    for it, one, each in zip(made, over_one, over_each):
         ran = stores[0].run(*it.words, given=it.given, user=it.user, options=options)
         try_route(it, one, each, *ran)
     for word in ("list", "roots", "live", "dead", "report"):
-        found = [it.run(word, options=options) for it in stores]
+        found = [store.run(word, options=options) for store in stores]
         same(f"{word} over one connection", found[1], found[0])
         same(f"{word} over a connection for each", found[2], found[0])
 
 
-def ask_twice(file, options, folder, curl, asked):
+def ask_twice(file, options, folder, curl, made):
     """The replies over one connection, and over a connection for each."""
     with serving("one connection", file, [*options, "--db", f"{folder}/one.db"], 1) as port:
-        over_one, _ = curl(port, asked)
-    same("one connection: those that were made", [it.connects for it in over_one], [1] + [0] * (len(asked) - 1))
-    with serving("a connection for each", file, [*options, "--db", f"{folder}/each.db"], len(asked)) as port:
-        over_each = [curl(port, [it], 'header = "connection: close"')[0][0] for it in asked]
+        over_one, _ = curl(port, made)
+    same("one connection: those that were made", [it.connects for it in over_one], [1] + [0] * (len(made) - 1))
+    with serving("a connection for each", file, [*options, "--db", f"{folder}/each.db"], len(made)) as port:
+        over_each = [curl(port, [it], 'header = "connection: close"')[0][0] for it in made]
     return over_one, over_each
 
 

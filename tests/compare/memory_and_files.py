@@ -34,11 +34,11 @@ def drawn(seed):
     return config, found
 
 
-def served(file, options, asked):
-    ran = subprocess.run([file, *options, "serve"], input=messages(asked), capture_output=True)
+def served(file, options, requests):
+    ran = subprocess.run([file, *options, "serve"], input=messages(requests), capture_output=True)
     if ran.returncode or ran.stderr:
         report.fail(f"{' '.join(options)}: status {ran.returncode}, {ran.stderr!r}")
-    return all_replies(ran.stdout, len(asked))
+    return all_replies(ran.stdout, len(requests))
 
 
 class Open:
@@ -47,10 +47,10 @@ class Open:
     def __init__(self, file, options):
         self.ran = subprocess.Popen([file, *options, "serve"], stdin=subprocess.PIPE, stdout=subprocess.PIPE)
 
-    def ask(self, asked):
-        self.ran.stdin.write(messages(asked))
+    def ask(self, requests):
+        self.ran.stdin.write(messages(requests))
         self.ran.stdin.flush()
-        return next_replies(self.ran.stdout, len(asked))
+        return next_replies(self.ran.stdout, len(requests))
 
     def end(self):
         self.ran.stdin.close()
@@ -58,13 +58,13 @@ class Open:
             report.fail(f"the server of an open file: status {self.ran.returncode}")
 
 
-def try_list(file, folder, name, asked, config):
+def try_list(file, folder, name, requests, config):
     """Compares the replies to each request of a list, and to what is asked after it."""
     at = lambda end: f"{folder}/{name}{end}.db"
     options, anew = ["--config", config], ["--config", config, "--db", at("")]
-    in_memory = served(file, options, [it for request in asked for it in (request, *STATE)])
+    in_memory = served(file, options, [it for request in requests for it in (request, *STATE)])
     is_open = Open(file, [*options, "--db", at("-open")])
-    for number, request in enumerate(asked):
+    for number, request in enumerate(requests):
         wanted = in_memory[number * (1 + len(STATE)) :][: 1 + len(STATE)]
         # (what follows a request is asked of a server of its own, which opens the file anew)
         came = {"a file that is opened anew": [*served(file, anew, [request]), *served(file, anew, STATE)],
@@ -79,6 +79,6 @@ def try_list(file, folder, name, asked, config):
 
 def test_lists(program, folder, seed, count):
     for at in range(count or COUNT):
-        config, asked = drawn(seed * 1000 + at)
+        config, requests = drawn(seed * 1000 + at)
         Path(path := f"{folder}/{at}.toml").write_bytes(config)
-        try_list(program, folder, str(at), asked, path)
+        try_list(program, folder, str(at), requests, path)

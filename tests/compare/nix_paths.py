@@ -77,11 +77,11 @@ def test_texts_with_references(texts, nix, rng):
     """References are given as full paths and as base names, some twice."""
     chosen = [rng.choices(texts.plain, k=rng.randrange(1, 5)) for _ in texts.names]
     at = {path: f"${{builtins.elemAt t {number}}} " for number, path in enumerate(texts.plain)}
-    written = ['"' + "".join(at[it] for it in refs) + '"' for refs in chosen]
+    written = ['"' + "".join(at[ref] for ref in refs) + '"' for refs in chosen]
     theirs = texts.files("referring", written, f"let t = import {nix.folder}/plain.nix; in ")
     for name, refs, wanted in zip(texts.names, chosen, theirs):
-        words = [word for it in refs for word in (it, Path(it).name)]
-        ours = texts.ran("text-path", name, *words, given="".join(f"{it} " for it in refs).encode())
+        words = [word for ref in refs for word in (ref, Path(ref).name)]
+        ours = texts.ran("text-path", name, *words, given="".join(f"{ref} " for ref in refs).encode())
         report.same(f"the path of {name} with references", ours.decode().strip(), wanted)
 
 

@@ -95,7 +95,7 @@ def put_one(nix, kept, path, digest, deriver, refs, is_output):
     dump = nix.archive(path)
     if is_output:
         digits = nix("nix-hash", "--type", "sha256", "--to-base32", digest).decode().strip()
-        pairs = [("path", path), ("nar-hash", f"sha256:{digits}"), *(("reference", it) for it in refs)]
+        pairs = [("path", path), ("nar-hash", f"sha256:{digits}"), *(("reference", ref) for ref in refs)]
         came = kept("import", given=lines(*pairs, *[("deriver", deriver)] * bool(deriver), payload=dump))
     elif Path(nix.place(path)).is_dir():
         came = kept("add-source", of_name, *refs, given=dump)
@@ -135,7 +135,7 @@ class Graph:
         """Puts each object into the store of nixkeep, after those that it refers to."""
         refs_of = {path: {*refs} - {path} for path, (_, _, _, refs) in self.objects.items()}
         derivations = {path for path in self.objects if path.endswith(".drv")}
-        outputs = {it for path in derivations for it in self.nix.lines("nix-store", "--query", "--outputs", path)}
+        outputs = {line for path in derivations for line in self.nix.lines("nix-store", "--query", "--outputs", path)}
         for path in graphlib.TopologicalSorter(refs_of).static_order():
             digest, _, deriver, refs = self.objects[path]
             put_one(self.nix, self.kept, path, digest, deriver, refs, path in outputs)
@@ -188,7 +188,7 @@ def compare_liveness(graph, outputs, derivations):
         links = {line.partition(" -> ")[0] for line in lines}
         same(f"the roots of {path} {what}",
              sorted(line.partition(" ")[0] for line in kept.lines("why", path, options=ours)),
-             sorted(str(Path(it).relative_to(nix.state)) for it in links))
+             sorted(str(Path(link).relative_to(nix.state)) for link in links))
 
 
 def compare_collection(rng, graph):
@@ -203,18 +203,18 @@ def compare_collection(rng, graph):
 
 def test_objects(graphs):
     """The list of all, and of each object the record, the archive and the listing."""
-    for it in graphs:
-        compare_objects(it)
+    for graph in graphs:
+        compare_objects(graph)
 
 
 @pytest.mark.parametrize("outputs", [False, True])
 @pytest.mark.parametrize("derivations", [False, True])
 def test_what_lives_and_why(graphs, outputs, derivations):
-    for it in graphs:
-        compare_liveness(it, outputs, derivations)
+    for graph in graphs:
+        compare_liveness(graph, outputs, derivations)
 
 
 def test_collections(graphs, rng):
     """Each store is collected, so this comes last."""
-    for it in graphs:
-        compare_collection(rng, it)
+    for graph in graphs:
+        compare_collection(rng, graph)

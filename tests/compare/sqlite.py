@@ -210,7 +210,7 @@ def misfits():
     """Tables and numbers of schemas that don't go together: the number, the tables, and what else is there."""
     for lacking in ([], ["piece"], ["temp_root"], ["piece", "temp_root"]):
         for schema in (1, 2, 3):
-            tables = [it for it in TABLES if it not in lacking]
+            tables = [table for table in TABLES if table not in lacking]
             if tables != tables_of(schema):
                 yield schema, tables, ""
     for schema, more in ((1, "CREATE VIEW piece AS SELECT 1;"), (1, "CREATE VIEW temp_root AS SELECT 1;"),

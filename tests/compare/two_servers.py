@@ -38,7 +38,7 @@ class Side:
         self.config = scenarios.server_config(rng)
         # (a list of each kind comes on one connection, so nothing that others ask comes between)
         self.clients = [[[message(*it) for it in [*requests(), *kept()]]], *[[] for _ in range(1, CLIENTS)]]
-        for asked in [it for _ in range(CONNECTIONS) for it in self.clients]:
+        for asked in [client for _ in range(CONNECTIONS) for client in self.clients]:
             asked.append(self.connection(scenarios, rng))
         # The connections in the order in which they were served: a client, which of its own it was, and its replies.
         self.served = []

@@ -71,22 +71,22 @@ def some_sessions():
 class Session:
     """Messages one after the other; what is written for them; and what each number of them leaves in a file."""
 
-    def __init__(self, tried, name, asked):
-        self.name, self.asked, self.given = name, asked, messages(asked)
-        self.ends = [*itertools.accumulate(len(message(*it)) for it in asked)]
+    def __init__(self, tried, name, requests):
+        self.name, self.asked, self.given = name, requests, messages(requests)
+        self.ends = [*itertools.accumulate(len(message(*request)) for request in requests)]
         # (the head of a message ends before its body)
-        self.heads = [end - len(it[3]) if len(it) > 3 else end for it, end in zip(asked, self.ends)]
+        self.heads = [end - len(it[3]) if len(it) > 3 else end for it, end in zip(requests, self.ends)]
         path = tried.path(name)
         status, self.written, errors = tried.serve(path, self.given)
         if (status, errors) != (0, b""):
             report.fail(f"{name}: status {status}, {errors!r}")
-        self.replies = [head + b"\r\n\r\n" + text for head, text in all_replies(self.written, len(asked))]
+        self.replies = [head + b"\r\n\r\n" + text for head, text in all_replies(self.written, len(requests))]
         self.starts = [*itertools.accumulate(map(len, self.replies), initial=0)]
         # Each number of messages by itself, over a file of its own.
         self.rows, self.states = [], []
-        for count in range(len(asked) + 1):
+        for count in range(len(requests) + 1):
             path = tried.path(f"{name}-{count}")
-            _, written, _ = tried.serve(path, messages(asked[:count]))
+            _, written, _ = tried.serve(path, messages(requests[:count]))
             if written != b"".join(self.replies[:count]):
                 report.fail(f"{name}: the first {count} messages alone are answered otherwise")
             self.rows.append(rows_in(path))

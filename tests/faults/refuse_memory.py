@@ -99,7 +99,7 @@ COMMANDS += [(it.split(), given) for it, given in (
 @pytest.mark.parametrize("words, given", COMMANDS, ids=lambda it: " ".join(it) if isinstance(it, list) else len(it))
 def test_lines(refusing, words, given):
     files = {"store.toml": CONFIG, "bad.toml": 'store-dir = "/"\n'}
-    placed = [refusing.put(it, files[it]) if it in files else it for it in words]
+    placed = [refusing.put(word, files[word]) if word in files else word for word in words]
     refusing.compare(" ".join(["nixkeep", *words]), placed, functools.partial(refusing.run, placed, given))
 
 
@@ -114,10 +114,10 @@ def test_refused_lines(refusing, wanted, settings, words, given):
 def test_two_messages(refusing):
     """Two messages to a store in memory: each reply is that of ample memory or says that memory is wanting, and a run
     that ends before has written a beginning of them."""
-    asked = [("ann", "GET", "/paths"), ("ann", "POST", "/text", lines_of(("name", "a"), payload=b"x"))]
-    given = messages(asked)
+    requests = [("ann", "GET", "/paths"), ("ann", "POST", "/text", lines_of(("name", "a"), payload=b"x"))]
+    given = messages(requests)
     status, written, errors = refusing.run(["serve"], given)
-    ample = all_replies(written, len(asked))
+    ample = all_replies(written, len(requests))
     added = f"/nix/store/{text_path('a', b'x')}\n".encode()
     if [status, errors, *(text for _, text in ample)] != [0, b"", b"", added]:
         report.fail(f"two messages: {ample}")
@@ -144,17 +144,17 @@ class Served:
         self.refusing, self.where, self.answered = refusing, {}, 0
         self.path, self.spare, self.config = (refusing.at(it) for it in ("store.db", "spare.db", "settings.toml"))
 
-    def over(self, path, asked, refused=0):
+    def over(self, path, requests, refused=0):
         words = ["--config", self.config, "--db", path, "serve"]
-        return self.refusing.run(words, messages(asked), refused, **self.where)
+        return self.refusing.run(words, messages(requests), refused, **self.where)
 
     def state(self, path):
         return state_of(self.over(path, STATE)[1])
 
-    def fault(self, asked, before, ample, refused):
+    def fault(self, request, before, ample, refused):
         """What is wrong with a run over a copy of the file, or None."""
         copy(self.path, self.spare)
-        status, written, errors = self.over(self.spare, [asked, *STATE], refused)
+        status, written, errors = self.over(self.spare, [request, *STATE], refused)
         came, left = replies(written)
         if [status, errors, left, came] == [0, b"", b"", ample]:
             return None
@@ -196,20 +196,20 @@ def before_each(served):
 
 @pytest.mark.parametrize("number", range(len(ASKED)), ids=lambda it: f"{it} {ASKED[it][0]}")
 def test_store(served, before_each, number):
-    (name, settings, asked), (kept, before) = ASKED[number], before_each[number]
+    (name, settings, request), (kept, before) = ASKED[number], before_each[number]
     served.refusing.put("settings.toml", settings)
     # (a server's start is tried with the first request)
     served.path, served.where = kept, {"REFUSE_FROM_INPUT": "1"} if number else {}
     copy(served.path, served.spare)
-    ample = all_replies(served.over(served.spare, [asked, *STATE])[1], 1 + len(STATE))
+    ample = all_replies(served.over(served.spare, [request, *STATE])[1], 1 + len(STATE))
     # (no file yet: the tables are made, and nothing is in them)
     was = before or ample[1:]
-    served.refusing.each(name, functools.partial(served.fault, asked, was, ample))
+    served.refusing.each(name, functools.partial(served.fault, request, was, ample))
 
 
 def test_some_requests_to_a_store_are_answered_as_failed(served, request):
     """Those of the tests above."""
-    if any(it.name.startswith("test_store") for it in request.session.items):
+    if any(item.name.startswith("test_store") for item in request.session.items):
         assert served.answered
 
 
@@ -218,7 +218,7 @@ def test_some_requests_to_a_store_are_answered_as_failed(served, request):
 
 def freed(size, *paths):
     """The text of a collection that deletes these paths, which have as many bytes each."""
-    lost = "".join(f"/nix/store/{it}\n" for it in paths)
+    lost = "".join(f"/nix/store/{path}\n" for path in paths)
     return f"{lost}freed {len(paths)} paths {size * len(paths)} bytes\n".encode()
 
 
@@ -263,24 +263,24 @@ def test_again(refusing, made, asked, text):
     once_more(served, asked, text)
 
 
-def once_more(served, asked, text):
+def once_more(served, request, text):
     """Refuses each allocation of a request over a copy of the file, and makes the request once more."""
-    name = f"{' '.join(asked[:3])}, once more"
+    name = f"{' '.join(request[:3])}, once more"
     over = lambda given, refused=0: served.over(copy(served.path, served.spare), given, refused)
-    ample, twice = [all_replies(over([*it, *STATE])[1], len(it) + len(STATE)) for it in ([asked], [asked] * 2)]
+    ample, twice = [all_replies(over([*it, *STATE])[1], len(it) + len(STATE)) for it in ([request], [request] * 2)]
     report.same(name, ample[0][1], text)
-    over([asked])
+    over([request])
     served.refusing.each(name, lambda refused: fault_of_both(
-        served, asked, over([asked, asked, *STATE], refused), ample, twice))
+        served, request, over([request, request, *STATE], refused), ample, twice))
 
 
-def fault_of_both(served, asked, ran, ample, twice):
+def fault_of_both(served, request, ran, ample, twice):
     """What is wrong with a run that was asked twice, or None: a request that failed is done the second time."""
     status, written, errors = ran
     came, left = replies(written)
     if (status, errors) == (1, FAILED) and came in ([], [ample[0]]):
         # the connection has ended, and the request is made on the next one; without a reply it may have been done
-        ran = served.over(served.spare, [asked, *STATE])
+        ran = served.over(served.spare, [request, *STATE])
         wanted = [twice[1:]] if came else [ample, twice[1:]]
         return None if all_replies(ran[1], 1 + len(STATE)) in wanted else f"{came}, and then {ran}"
     if [status, errors, left, len(came)] != [0, b"", b"", len(twice)]:
@@ -334,9 +334,9 @@ def over(refusing):
     """What a server answers that is given no large block: its status, the texts, what is left, and its errors."""
     config = refusing.put("bodies.toml", 'allowed-users = ["bob"]\ntrusted-users = ["ann"]\n')
 
-    def run(asked, after=b""):
+    def run(requests, after=b""):
         where = {"REFUSE_BLOCKS": 16_384, "REFUSE_FROM_INPUT": 1}
-        status, written, errors = refusing.run(["--config", config, "serve"], messages(asked) + after, **where)
+        status, written, errors = refusing.run(["--config", config, "serve"], messages(requests) + after, **where)
         came, left = replies(written)
         return status, [text for _, text in came], left, errors
 
@@ -400,7 +400,7 @@ def test_openings_that_are_refused(refusing, wanted, words, change):
               "PATH": next(iter(built.world.objects))}
     remove(whole := refusing.at("refused.db"))
     put(whole, built.rows(), made_by(3), change)
-    words = ["--user", "ann", *(places.get(it, it) for it in words)]
+    words = ["--user", "ann", *(places.get(word, word) for word in words)]
     came, _ = open_each(refusing, f"a file and {wanted}", whole, words)
     if came != (3, b"", f"refused: {wanted}\n".encode()):
         report.fail(f"refused: {wanted} is wanted, and {came} came")

@@ -85,9 +85,9 @@ class Tried(Loaded):
     def put_settings(self, text):
         self.config = self.put("settings.toml", text)
 
-    def serve(self, asked, **where):
+    def serve(self, requests, **where):
         words = ["--config", self.config, "--db", self.path, "serve"]
-        return self.run(words, messages(asked), STOP_IN=self.path, **where)
+        return self.run(words, messages(requests), STOP_IN=self.path, **where)
 
     def state(self, contents):
         """What the store says over these bytes, and the rows that SQLite finds in the file then."""
@@ -104,25 +104,25 @@ class Tried(Loaded):
         lay(self.spare, contents)
         return rows_in(self.spare)
 
-    def fault(self, asked, before, at, wanted=STOPPED, **where):
+    def fault(self, requests, before, at, wanted=STOPPED, **where):
         """What is wrong with a stop at this call, or with an end of this status; or None."""
         lay(self.path, before)
-        status, written, errors = self.serve(asked, STOP_AT=at, **where)
+        status, written, errors = self.serve(requests, STOP_AT=at, **where)
         if status != wanted:
             return f"status {status}, {errors!r}"
-        return self.wrong_in(before, bool(asked) and len(replies(written)[0]) == len(asked))
+        return self.wrong_in(before, bool(requests) and len(replies(written)[0]) == len(requests))
 
-    def failure(self, asked, before, at):
+    def failure(self, requests, before, at):
         """What is wrong with a run whose files fail from this call on; or None."""
         lay(self.path, before)
-        status, written, errors = self.serve(asked, STOP_AT=at, STOP_FAILS=1)
+        status, written, errors = self.serve(requests, STOP_AT=at, STOP_FAILS=1)
         if (status, written, errors) == (3, b"", REFUSED):
             # (an empty log may be there)
             is_changed = any((it or b"") != (before[more] or b"") for more, it in held(self.path).items())
             return "a file that is refused is changed" if is_changed else None
         # (if nothing is asked, an end without a failure says that the tables are made)
-        is_done = written == self.written and (bool(asked) or status == 0)
-        is_told = written.endswith(b"\r\n\r\n" + FAILED) and len(replies(written)[0]) == len(asked)
+        is_done = written == self.written and (bool(requests) or status == 0)
+        is_told = written.endswith(b"\r\n\r\n" + FAILED) and len(replies(written)[0]) == len(requests)
         if (status, written, errors) != (1, b"", FAILED) and (status or errors or not (is_done or is_told)):
             return f"status {status}, {written!r}, {errors!r}"
         return self.wrong_in(before, is_done)
@@ -138,14 +138,14 @@ class Tried(Loaded):
                 return f"neither what was there before nor what is after: {state}"[:600]
         return None
 
-    def serve_whole(self, what, asked, before, was):
+    def serve_whole(self, what, requests, before, was):
         """Keeps what a server that isn't stopped answers and leaves, over these bytes; returns how many of its calls
         can fail."""
         lay(self.path, before)
-        self.serve(asked, STOP_FAILS=1)
+        self.serve(requests, STOP_FAILS=1)
         calls = self.counted()[0]
         lay(self.path, before)
-        self.written = self.serve(asked)[1]
+        self.written = self.serve(requests)[1]
         self.total, after = self.counted()[0], held(self.path)
         self.was, self.after = was, self.state(after)
         # (a file that is being made is no database yet)
@@ -155,16 +155,16 @@ class Tried(Loaded):
         self.was = self.was or self.after
         return calls
 
-    def stop_each(self, what, asked, before, was, some=None):
+    def stop_each(self, what, requests, before, was, some=None):
         """Each stop of a server that is asked this, over these bytes, or some."""
-        calls, some = self.serve_whole(what, asked, before, was), some or self.some
+        calls, some = self.serve_whole(what, requests, before, was), some or self.some
         for torn in (False, True):
             for at in some(self.total, what, torn):
-                why = self.fault(asked, before, at, **({"STOP_TORN": 1} if torn else {}))
+                why = self.fault(requests, before, at, **({"STOP_TORN": 1} if torn else {}))
                 report.right(f"{what}: stopped at call {at}{', half of which is made' if torn else ''}", why)
-        report.right(f"{what}: a crash after the last call", self.fault(asked, before, self.total + 1, 0))
+        report.right(f"{what}: a crash after the last call", self.fault(requests, before, self.total + 1, 0))
         for at in some(calls, what, "failures"):
-            report.right(f"{what}: files that fail from call {at} on", self.failure(asked, before, at))
+            report.right(f"{what}: files that fail from call {at} on", self.failure(requests, before, at))
 
 
 @pytest.fixture(scope="module")

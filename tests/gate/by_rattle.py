@@ -30,7 +30,7 @@ def test_each_compiler_builds_its_own(second, pytestconfig):
         assert not filecmp.cmp(second, program.FILE, shallow=False), "both programs have the same bytes"
 
 
-@pytest.mark.parametrize("case", sorted(it.name for it in Path(CASES).glob("*.txt")))
+@pytest.mark.parametrize("case", sorted(path.name for path in Path(CASES).glob("*.txt")))
 def test_case(runs, case):
     ran = runs[case].result()
     report.passes(ran.passed())

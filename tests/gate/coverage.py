@@ -84,8 +84,8 @@ def place_in(folder: str) -> str:
 
 def tests_of(top, named):
     """The tests of a copy that are measured: all, or those that are named."""
-    names = [f"{top}/tests/tools/{it}.py" for it in scripts("tools", "test_")
-             if it not in NO_TOOL and (not named or it.removeprefix("test_") in named)]
+    names = [f"{top}/tests/tools/{script}.py" for script in scripts("tools", "test_")
+             if script not in NO_TOOL and (not named or script.removeprefix("test_") in named)]
     return names + [str(Path(f"{top}/tests/{parts.TEAM}").resolve())] * (not named or "try" in named)
 
 
@@ -116,10 +116,10 @@ def percents(lines: dict[str, set[int]], top: str) -> tuple[int, list[tuple[str,
     """The percent of the lines that ran, of all and of each module, the least first."""
     how = {"cwd": top, "stdout": subprocess.PIPE, "stderr": subprocess.STDOUT, "text": True}
     given = json.dumps({file: sorted(of_file) for file, of_file in lines.items()})
-    told = subprocess.run(["/usr/bin/python3", "-c", REPORT], input=given, **how).stdout
-    rows = re.findall(r"^(\S+) +(\d+) +(\d+) +(\d+)%", told, re.M)
+    printed = subprocess.run(["/usr/bin/python3", "-c", REPORT], input=given, **how).stdout
+    rows = re.findall(r"^(\S+) +(\d+) +(\d+) +(\d+)%", printed, re.M)
     if not rows:
-        report.fail(f"coverage measured nothing: {told[-1000:]}")
+        report.fail(f"coverage measured nothing: {printed[-1000:]}")
     found = {name: 100 * (1 - int(missed) / max(int(lines), 1)) for name, lines, missed, _ in rows}
     # (a whole number: some lines run only if something takes its time)
     return int(found.pop("TOTAL")), sorted(found.items(), key=lambda it: it[1])

@@ -46,7 +46,7 @@ def changes_of(crate, edit):
 
 
 def errors_of(said):
-    return [ERROR.match(it) for it in said.splitlines() if ERROR.match(it)]
+    return [ERROR.match(line) for line in said.splitlines() if ERROR.match(line)]
 
 
 def unread(said, changed):
@@ -127,11 +127,11 @@ def try_crate(crate, edits, named, bound, is_tried_without):
             since = time.monotonic()
             why = why_not(crate, edit, named, kept, is_tried_without)
             refused += why is None
-            told = f"{crate}/{edit.name}: {why or 'refused'} ({time.monotonic() - since:.0f} s)"
+            line = f"{crate}/{edit.name}: {why or 'refused'} ({time.monotonic() - since:.0f} s)"
             is_known = (crate, edit.name) in survivors
             if is_known:
-                told = f"{told}: {bodies.SURVIVORS} has it"
-            (report.tell if is_known == (why is not None) else report.failure)(told)
+                line = f"{line}: {bodies.SURVIVORS} has it"
+            (report.tell if is_known == (why is not None) else report.failure)(line)
     return refused
 
 
@@ -139,7 +139,7 @@ def chosen(words):
     """The edits to try, as pairs of a crate and a name, and how many there are."""
     every = [(crate, it.name) for crate, it in bodies.every(False)]
     if words.names:
-        bodies.having([it.partition("/")[0] for it in words.names])
+        bodies.having([name.partition("/")[0] for name in words.names])
         every += [(crate, it.name) for crate, it in bodies.every(True)]
         return [it for it in every if it[0] in words.names or "/".join(it) in words.names], len(every)
     if words.gate or words.today:

@@ -116,10 +116,10 @@ def show_table(found, cases, whole, since):
     rows = sorted(found.items(), key=lambda it: -sum(it[1].values()))
     print(f"\n{'processor minutes':22}" + "".join(f"{it:>8}" for it in (*KINDS, "all")))
     for crate, row in rows:
-        print(f"{crate:22}" + "".join(f"{row[it]:8.1f}" for it in KINDS) + f"{sum(row.values()):8.1f}")
+        print(f"{crate:22}" + "".join(f"{row[kind]:8.1f}" for kind in KINDS) + f"{sum(row.values()):8.1f}")
     other = whole - cases - sum(sum(row.values()) for row in found.values())
     print(f"{'what tries the program':46}{cases:8.1f}\n{'else':46}{other:8.1f}")
-    columns = "".join(f"{sum(row[it] for _, row in rows):8.1f}" for it in KINDS)
+    columns = "".join(f"{sum(row[kind] for _, row in rows):8.1f}" for kind in KINDS)
     print(f"{'together':22}{columns}{whole:8.1f}")
     print(f"in {(time.monotonic() - since) / 60:.1f} minutes on {len(os.sched_getaffinity(0))} processors")
 

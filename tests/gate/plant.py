@@ -78,7 +78,7 @@ def more(asked):
 def chosen(words):
     """The crates to try."""
     names = plants.of_day(words.seed) if words.today else words.names
-    if unknown := [it for it in names if it not in program.listed()]:
+    if unknown := [name for name in names if name not in program.listed()]:
         report.fail(f"no crate {' '.join(unknown)}")
     if not names:
         report.fail("name a crate, or give --today")
@@ -97,7 +97,7 @@ def run(words):
     if words.today and (why := why_not_today()):
         return report.skip(why)
     known, names, named, failed = plants.listed(), chosen(words), program.listed(), 0
-    program.prove(tuple({below for it in names for below in program.with_below(it, named)[:-1]}))
+    program.prove(tuple({below for name in names for below in program.with_below(name, named)[:-1]}))
     top = f"{words.folder}/nixkeep"
     copy_to(top, FOLDERS)
     subprocess.run(["git", "init", "-q", top], check=True)

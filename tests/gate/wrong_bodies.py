@@ -46,7 +46,7 @@ from nixkeep_dev.testing.runs import spent
 
 def check(crate, named, texts, edits, kept):
     """A check of the functions that edits change, over these texts, in which all others are only stated."""
-    return copies.check_stated(crate, named, texts, {it for edit in edits for it in edit.functions}, kept)
+    return copies.check_stated(crate, named, texts, {function for edit in edits for function in edit.functions}, kept)
 
 
 def together(edits, texts):
@@ -79,8 +79,8 @@ class Tried:
         with tempfile.TemporaryDirectory(prefix="rt-edits-") as kept:
             if is_tried_without and self.edits:
                 checked = check(self.crate, self.named, self.texts, self.edits, kept)
-                self.wrong += [f"not proved without its edit: {checked.why_not(it)}" for edit in self.edits
-                               for it in edit.functions if not checked.is_proved(it)]
+                self.wrong += [f"not proved without its edit: {checked.why_not(function)}" for edit in self.edits
+                               for function in edit.functions if not checked.is_proved(function)]
             while self.edits_now():
                 taken, changed, left = together(self.edits, self.texts)
                 if not taken:
@@ -96,10 +96,10 @@ class Tried:
 
     def edits_now(self):
         """The edits that are still to be tried: once the bound is spent, those that are always tried."""
-        others = [it for it in self.edits if (self.crate, it.name) not in self.always]
+        others = [edit for edit in self.edits if (self.crate, edit.name) not in self.always]
         if self.bound.leaves_out(others):
             self.count -= len(others)
-            self.edits = [it for it in self.edits if it not in others]
+            self.edits = [edit for edit in self.edits if edit not in others]
         return self.edits
 
     def try_equal(self):
@@ -133,7 +133,7 @@ class Tried:
 
     def judge(self, taken, checked):
         """Counts the edits that a check refused; returns those whose functions wait for others."""
-        found = {edit: [checked.is_refused(it) for it in edit.functions] for edit in taken}
+        found = {edit: [checked.is_refused(function) for function in edit.functions] for edit in taken}
         refused = [it for it in taken if True in found[it]]
         waiting = [it for it in taken if it not in refused and None in found[it]]
         self.refused += len(refused)
@@ -149,7 +149,7 @@ class Tried:
                 self.not_refused(edit, f"NOT REFUSED for what it does ({why})", is_empty)
         if not checked.said:
             lines = checked.output.split("\n")
-            errors = [it for it in lines if "error" in it][:6]
+            errors = [line for line in lines if "error" in line][:6]
             self.wrong.append("\n".join(["nothing was checked:", *errors, *lines[-4:]]))
         return waiting
 
@@ -206,8 +206,8 @@ def run(words):
                 f" {sum(it.refused for it in done) - searched} of them refused for a goal that is wrong, {searched} by"
                 f" a search alone, in {spent() / 60:.1f} processor minutes")
     if empty := [name for it in done for name in it.empty]:
-        told = f"{len(empty)} wrong bodies of the day, refused for what they leave out: {', '.join(empty)}"
-        report.skip(told, len(empty))
+        what = f"{len(empty)} wrong bodies of the day, refused for what they leave out: {', '.join(empty)}"
+        report.skip(what, len(empty))
     bound.tell("wrong bodies", count)
     if words.changed:
         report.tell(f"changed since {recorded.NAME} got their sums: {' '.join(changed) or 'none of its crates'}")

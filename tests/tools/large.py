@@ -59,7 +59,7 @@ class Team(parts.Unit):
     def fields(self, path: str, *more: str) -> dict[str, str] | tuple[int, bytes]:
         """The record of a path as a binary cache gives it."""
         status, text = self("ann", "GET", f"/{path[11:43]}.narinfo", None, *more)
-        return dict(it.split(": ", 1) for it in text.decode().splitlines()) if status == 200 else (status, text)
+        return dict(line.split(": ", 1) for line in text.decode().splitlines()) if status == 200 else (status, text)
 
     def file(self, archive: bytes) -> Path:
         """The file of an archive's blob."""

@@ -69,5 +69,5 @@ def sums(deb: str, room: str) -> tuple[str, list[str], list[str]]:
     wrong = subprocess.run(["sha256sum", "--check", "--quiet", file], cwd=HERE, stdout=subprocess.PIPE, text=True)
     crates = program.with_below(program.NAME, program.listed())
     read = rf"crates/({'|'.join(crates)})/(src|specs|proofs)/.*\.(rt|antt)"
-    wanted = ["HANDLES", "crates.txt", *[it for it in tracked("crates") if re.fullmatch(read, it)]]
+    wanted = ["HANDLES", "crates.txt", *[path for path in tracked("crates") if re.fullmatch(read, path)]]
     return wrong.stdout, [line.split("  ", 1)[1] for line in Path(file).read_text().splitlines()], wanted

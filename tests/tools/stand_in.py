@@ -94,7 +94,7 @@ def become(pid, is_open, descriptors):
     os.chdir(f"/proc/{pid}/cwd")
     os.environ.clear()
     os.environ.update(it.split("=", 1) for it in strings(of_process(pid, "environ")) if "=" in it)
-    status = dict(it.split(":\t", 1) for it in of_process(pid, "status").decode().splitlines())
+    status = dict(line.split(":\t", 1) for line in of_process(pid, "status").decode().splitlines())
     os.umask(int(status["Umask"], 8))
     for it in signal.Signals:
         if int(status["SigIgn"], 16) >> (it - 1) & 1:

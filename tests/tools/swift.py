@@ -39,7 +39,7 @@ class Swift:
     """The four servers. `url` is where a client of S3 asks."""
 
     def __init__(self, folder: str):
-        self.folder, self.ports = folder, {it: parts.free_port() for it in TOOLS}
+        self.folder, self.ports = folder, {tool: parts.free_port() for tool in TOOLS}
         os.makedirs(f"{folder}/devices/one")
         Path(f"{folder}/swift.conf").write_text(
             "[swift-hash]\nswift_hash_path_suffix = a\nswift_hash_path_prefix = b\n"
@@ -51,8 +51,8 @@ class Swift:
         self.rings()
         Path(f"{folder}/proxy.conf").write_text(self.proxy())
         self.url = f"http://127.0.0.1:{self.ports['swift-proxy-server']}"
-        words = {it: [parts.place_of(it), f"{folder}/{it.split('-')[1]}.conf", "-v"] for it in TOOLS}
-        self.running = [parts.Part(it, words[it], self.ports[it], f"{folder}/{it}.log") for it in TOOLS]
+        words = {tool: [parts.place_of(tool), f"{folder}/{tool.split('-')[1]}.conf", "-v"] for tool in TOOLS}
+        self.running = [parts.Part(tool, words[tool], self.ports[tool], f"{folder}/{tool}.log") for tool in TOOLS]
 
     def rings(self):
         """A ring for each kind of server: one device. (swift-ring-builder waits for names of hosts.)"""
@@ -60,7 +60,7 @@ class Swift:
         subprocess.run(["/usr/bin/python3", "-c", RINGS, self.folder, *words], check=True)
 
     def proxy(self):
-        filters = "".join(f"[filter:{it}]\nuse = egg:swift#{it}\n{self.more(it)}" for it in FILTERS.split())
+        filters = "".join(f"[filter:{word}]\nuse = egg:swift#{word}\n{self.more(word)}" for word in FILTERS.split())
         port = self.ports["swift-proxy-server"]
         return (f"{settings(self.folder, port)}[pipeline:main]\npipeline = {FILTERS} proxy-server\n"
                 f"[app:proxy-server]\nuse = egg:swift#proxy\naccount_autocreate = true\n{filters}")

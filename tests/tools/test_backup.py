@@ -107,7 +107,7 @@ class Store:
         return sorted(os.listdir(self.to))
 
     def bytes_of_copies(self):
-        return {it: Path(self.to, it).read_bytes() for it in self.copies()}
+        return {copy: Path(self.to, copy).read_bytes() for copy in self.copies()}
 
     def damaged(self):
         """A copy of a copy, of which an archive isn't what it was."""
@@ -136,7 +136,7 @@ def add(ask, name, text, user="ann"):
 def all_of(ask):
     """All that a server says of its store, archives included."""
     lists = {it: ask("build", "GET", it) for it in ("/paths", "/roots", "/report", "/live", "/dead")}
-    bases = [it.rpartition("/")[2] for it in lists["/paths"].splitlines()]
+    bases = [line.rpartition("/")[2] for line in lists["/paths"].splitlines()]
     objects_of = {f"{it} {base}": ask("build", "GET", f"/{it}/{base}") for base in bases for it in ("info", "nar")}
     return {**lists, **objects_of}
 
@@ -190,7 +190,7 @@ def test_a_failure_costs_no_copy(store, good):
     state = json.loads(Path(store.state).read_text())
     assert "hash isn't" in state["reason"] and "succeeded" not in state
     status, output, errors = store.copy("--state", f"{damaged}/state", file=damaged)
-    lines = [it.removeprefix("nixkeep-backup: failed: ").partition(":")[0] for it in errors.splitlines()]
+    lines = [line.removeprefix("nixkeep-backup: failed: ").partition(":")[0] for line in errors.splitlines()]
     assert (status, lines) == (1, ["state", "test"]), "a state that can't be written hides no reason"
     os.mkfifo(pipe := f"{store.folder}/pipe.db")
     fails(store.copy(file=pipe), "it is no file", store, good)
@@ -379,7 +379,7 @@ def test_a_check_of_a_server(store, units):
         Path(store.config).write_text(CONFIG.replace("trusted", "thrusted"))
         fails_with("bad-config", backup(*words))
         Path(store.config).write_text(CONFIG)
-        fails_with("failed: schema", backup(*[later if it == store.file else it for it in words]))
+        fails_with("failed: schema", backup(*[later if word == store.file else word for word in words]))
     fails_with("failed: unreachable", backup(*words))
     with store.opened() as ask:
         add(ask, "late", "late")
@@ -478,7 +478,7 @@ def test_a_hostile_report(text, line, store):
     with servers.server(store.program, "--config", store.config, "--db", store.file):
         with servers.answering(lambda *_: (200, "text/plain", text)) as url:
             fails_with(line, backup(*store.options("check"), "--db", store.file, "--server", url, "--note", note))
-    assert not [it for it in os.listdir(store.folder) if it.startswith("note")]
+    assert not [name for name in os.listdir(store.folder) if name.startswith("note")]
 
 
 def of_later_schema(store):
@@ -527,7 +527,7 @@ def test_a_copy_of_labels_that_look_like_others(store):
             ask = asker(objects.Store(http_client.Server(place, {}, connection=connection), "build", "/nix/store"))
             path = add(ask, "labels", "labels")
             labels = ["{censored}", "{temp:5}", "gcroots/x", "profiles/per-user/ann/a-1-link", "-"]
-            ask("build", "POST", "/runtime", "".join(f"root: {it} {path}\n" for it in labels).encode() + b"\n")
+            ask("build", "POST", "/runtime", "".join(f"root: {label} {path}\n" for label in labels).encode() + b"\n")
         came = fetched(store, place.url)
         assert came[0] == 0, came
         fails_with("needs a trusted caller", fetched(store, place.url, "--as", "ann"))
@@ -621,8 +621,8 @@ def test_a_restore_without_room(store, restored, units):
     status, _, errors = restored(f"{store.to}/{store.copies()[0]}", most=8)
     assert status == 1 and "failed: restore: " in errors and errors.count("\n") == 1
     assert store.bytes() == before, "leaves the store"
-    assert [it for it in os.listdir(store.folder) if it.startswith(("aside-", "store.new"))] == []
-    assert all((units.folder / it).exists() for it in UNITS), "whose units run again"
+    assert [name for name in os.listdir(store.folder) if name.startswith(("aside-", "store.new"))] == []
+    assert all((units.folder / unit).exists() for unit in UNITS), "whose units run again"
 
 
 def test_a_restore(store, restored, units):
@@ -636,10 +636,10 @@ def test_a_restore(store, restored, units):
     assert status == 0 and output.startswith("restored 6 objects, ") and not errors, errors
     assert Path(store.config).read_text() == CONFIG, "a link in the place of the new file isn't followed"
     notes = units.notes.read_text().splitlines()
-    assert [it.removeprefix("stop ") for it in notes if it.startswith("stop ")] == UNITS, "stopped in order"
-    started = [it.removeprefix("start ") for it in notes if it.startswith("start ")]
+    assert [note.removeprefix("stop ") for note in notes if note.startswith("stop ")] == UNITS, "stopped in order"
+    started = [note.removeprefix("start ") for note in notes if note.startswith("start ")]
     assert started == [*UNITS[1:], UNITS[0]], "started in order"
-    aside = next(it for it in os.listdir(store.folder) if it.startswith("aside-"))
+    aside = next(name for name in os.listdir(store.folder) if name.startswith("aside-"))
     assert sorted(os.listdir(f"{store.folder}/{aside}")) == ["store.db", "store.db-wal"], "the files before"
     seen = os.stat(store.file)
     assert (seen.st_mode & 0o777, seen.st_uid, seen.st_gid) == (0o600, *owner), "the owner is that of the folder"
@@ -787,7 +787,7 @@ def test_a_restore_of_what_a_service_has_left(names, store, restored):
     status, output, errors = restored(f"{store.to}/{store.copies()[0]}")
     assert (status, errors) == (0, "") and output.startswith("restored 6 objects, ")
     aside, = Path(store.folder).glob("aside-*")
-    assert all((aside / it / "more").is_dir() for it in names)
+    assert all((aside / name / "more").is_dir() for name in names)
     with store.opened() as ask:
         assert all_of(ask) == wanted
 

@@ -108,7 +108,7 @@ def test_head_has_the_head_of_get_and_no_body(target, wanted, site, path):
             reply = connection.getresponse()
             text = reply.read()
             fields = ((key.lower(), value) for key, value in reply.getheaders())
-            heads.append((reply.status, sorted(it for it in fields if it[0] != "date")))
+            heads.append((reply.status, sorted(field for field in fields if field[0] != "date")))
     assert heads[0] == heads[1] and heads[0][0] == wanted and not text
 
 
@@ -185,9 +185,9 @@ def test_archives_are_compressed_where_that_saves_something(name, site):
 def collect(site, *fields):
     """A collection that is asked for with these fields; OWN is the address of the cache."""
     # (curl leaves out a field without a value, but not one that ends with a semicolon)
-    lines = [it.replace("OWN", f"http://127.0.0.1:{site.port}") for it in fields]
-    lines = ["origin;" if it == "origin: " else it for it in lines]
-    return site.ann("POST", "/collect", None, *[word for it in lines for word in ("-H", it)])
+    lines = [field.replace("OWN", f"http://127.0.0.1:{site.port}") for field in fields]
+    lines = ["origin;" if line == "origin: " else line for line in lines]
+    return site.ann("POST", "/collect", None, *[word for line in lines for word in ("-H", line)])
 
 
 @pytest.mark.parametrize("fields", [
@@ -326,7 +326,7 @@ def test_what_waits_is_bounded(server, folder):
         small.end()
         small.start()
         assert put(Client(small.place, "bob"), b"7") == 503, "where it is known whose files wait"
-        assert {it.stat().st_mode & 0o777 for it in names()} == {0o600}, "and nobody else reads them"
+        assert {name.stat().st_mode & 0o777 for name in names()} == {0o600}, "and nobody else reads them"
 
 
 def test_many_clients_at_once(site):
@@ -381,7 +381,7 @@ def test_a_page_whose_name_was_made_to_lead_here(fixed):
     """It gets nothing."""
     at = fixed.removeprefix("http://")
     hosts = at, "localhost", "[::1]:80", "evil.example", at.replace("127.0.0.1", "evil.example")
-    assert [curl("-H", f"host: {it}", f"{fixed}/paths")[0] for it in hosts] == [200, 200, 200, 403, 403]
+    assert [curl("-H", f"host: {host}", f"{fixed}/paths")[0] for host in hosts] == [200, 200, 200, 403, 403]
 
 
 needs_nix = pytest.mark.needs("nix", "nix-store", "python3-zstandard")

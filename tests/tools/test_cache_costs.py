@@ -154,8 +154,8 @@ def test_listings_of_all_paths_are_made_one_at_a_time():
                    for it in requests]
         for _ in range(3):
             await asyncio.sleep(0.05)
-            counts.append((len(asked), sum(it.done() for it in replies)))
-            sending.give(next(it["room"] for it in requests if it.get("room") in sending.held))
+            counts.append((len(asked), sum(reply.done() for reply in replies)))
+            sending.give(next(request["room"] for request in requests if request.get("room") in sending.held))
         for it in replies:
             it.cancel()
         return counts
@@ -403,7 +403,7 @@ def test_derivations_are_read_in_linear_time():
 
 def keeps(kept, roots):
     """The keepers of a graph with roots at these places."""
-    return store_file.keepers(types.SimpleNamespace(roots=[types.SimpleNamespace(target=it) for it in roots]), kept)
+    return store_file.keepers(types.SimpleNamespace(roots=[types.SimpleNamespace(target=root) for root in roots]), kept)
 
 
 def test_keepers_are_found_in_one_pass():
@@ -420,7 +420,7 @@ def test_keepers_are_found_in_one_pass():
         count = rng.randrange(1, 14)
         kept = {at: [rng.randrange(count) for _ in range(rng.randrange(4))] for at in range(count)}
         roots = [rng.randrange(count + 1) for _ in range(rng.randrange(5))]
-        reached = [store_file.reach(kept, [it]) for it in roots]
+        reached = [store_file.reach(kept, [root]) for root in roots]
         wanted = {at: sum(1 << bit for bit, it in enumerate(reached) if at in it) for at in kept}
         assert keeps(kept, roots) == wanted, ("keepers are those that reach", seed, kept, roots)
 
@@ -434,8 +434,8 @@ def test_an_overview_has_one_derivation_in_memory():
         async def gets(self, _, route, bases):
             together.append(bases if route == "/nar/" else [])
             record = f"NarSize: {len(text)}\nReferences: \n".encode()
-            for it in bases:
-                yield it, types.SimpleNamespace(status=200, text=text if route == "/nar/" else record)
+            for base in bases:
+                yield base, types.SimpleNamespace(status=200, text=text if route == "/nar/" else record)
 
         async def ask(self, _, __, target):
             together.append([target])
@@ -454,8 +454,8 @@ def test_few_records_of_a_store_are_in_memory():
     server = cache_server.Server(None, 1)
 
     async def asks(requests):
-        asked.append([it.target for it in requests])
-        return [cache_server.Reply(200, "text/plain", it.target.encode()) for it in requests]
+        asked.append([request.target for request in requests])
+        return [cache_server.Reply(200, "text/plain", request.target.encode()) for request in requests]
 
     async def read():
         server.asks, seen = asks, []
@@ -492,7 +492,7 @@ def test_pointers_are_listed_once_at_a_time():
         large = cache_large.Large(None, Lookup(), 0, None, "/nix/store")
         large.passing = types.SimpleNamespace(sending=cache_http.Sending(1 << 20, 60))
         names = ["ann", "bob"] * 5
-        return await asyncio.gather(*(large.listing(Asked(caller=cache_server.Caller(it, None))) for it in names))
+        return await asyncio.gather(*(large.listing(Asked(caller=cache_server.Caller(name, None))) for name in names))
 
     assert [it.status for it in asyncio.run(ask())] == [200] * 10
     assert most == [1] * 10

@@ -36,8 +36,8 @@ def test_a_server_that_is_a_child(unit):
         add = lambda name: ask(store.place, "ann", "POST", "/text", text(name))[0]
         assert add("one") == 200, "an add to a server that is a child"
         pid = store.server()
-        files = [os.readlink(it) for it in Path(f"/proc/{pid}/fd").iterdir()]
-        assert not any(it.startswith("socket:") for it in files), "the server has no socket"
+        files = [os.readlink(path) for path in Path(f"/proc/{pid}/fd").iterdir()]
+        assert not any(file.startswith("socket:") for file in files), "the server has no socket"
         for count in range(3):
             store.kill_server()
             assert add(f"more{count}") == 200, f"killed {count + 1} times, it is started again"
@@ -134,7 +134,7 @@ def test_requests_by_which_a_server_dies(folder):
             assert seen == (502, times), f"{method} {target}: it is sent {times} times, and then it is a 502"
         assert curl("-H", "store-user: ann", f"{url}/paths")[0] == 404, "other requests are answered"
     lines = cache.lines()
-    assert len(lines) == 3 and all("before its reply" in it for it in lines), ("each has one line", lines)
+    assert len(lines) == 3 and all("before its reply" in line for line in lines), ("each has one line", lines)
 
 
 def test_turns_of_users():

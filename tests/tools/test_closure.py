@@ -114,7 +114,7 @@ class Made:
         self.top = f"/nix/store/{'1' * 32}-top"
         self.nix.add(self.top, b"top", "", sorted([*given, *itertools.chain(*pairs)]))
         self.infos = self.nix.infos()
-        self.bytes = sum(it["narSize"] for it in self.infos.values())
+        self.bytes = sum(value["narSize"] for value in self.infos.values())
 
     def fresh(self):
         """A new file, and a new store of Nix."""
@@ -124,7 +124,7 @@ class Made:
     def is_in(self, nix):
         """A store of Nix has it all."""
         infos, keys = nix.infos(), ("narHash", "narSize", "references", "deriver", "ca")
-        some = lambda of: {path: [info.get(it) for it in keys] for path, info in of.items()}
+        some = lambda of: {path: [info.get(key) for key in keys] for path, info in of.items()}
         assert some(infos) == some(self.infos)
         assert nix("nix-store", "--verify", "--check-contents") == b""
 
@@ -169,7 +169,7 @@ def test_a_push_of_what_is_there(made, kept):
     assert push(f"{made.folder}/result") == (0, line, ""), "a path by a link"
     assert push(Path(made.top).name) == (0, line, ""), "a path by its base name"
     labels = "gcroots/ours", "gcroots/per-user/root/top", "profiles/per-user/root/tops-1-link"
-    assert kept.lines("roots") == [f"{it} {made.top}" for it in labels]
+    assert kept.lines("roots") == [f"{label} {made.top}" for label in labels]
 
 
 def test_a_push_of_texts_and_folders_by_an_allowed_user(made):

@@ -118,7 +118,7 @@ def pytest_ran(ran):
 def test_a_case_that_passes(pytest_ran):
     status, said = pytest_ran("tests/cases/who.txt")
     steps = steps_of(Path(f"{HERE}/tests/cases/who.txt").read_text())
-    prepared = sum(it.only_prepares() for it in steps)
+    prepared = sum(step.only_prepares() for step in steps)
     assert (status, f"{len(steps) - prepared} passed, {prepared} only prepare in" in said) == (0, True), said
 
 

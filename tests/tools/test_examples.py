@@ -77,9 +77,9 @@ def test_the_packages_of_the_module(machine):
 def test_the_units_of_the_module(machine, kind, target):
     units = machine["systemd"][kind]
     assert [*units] == ["nixkeep@blue", "nixkeep@red"]
-    assert {it["wantedBy"][0] for it in units.values()} == {target}
+    assert {value["wantedBy"][0] for value in units.values()} == {target}
     # (without it NixOS would make a unit of its own in place of the package's)
-    assert {it["overrideStrategy"] for it in units.values()} == {"asDropin"}
+    assert {value["overrideStrategy"] for value in units.values()} == {"asDropin"}
     assert Path(f"{HERE}/packaging/nixkeep@.{kind.removesuffix('s')}").exists()
 
 
@@ -143,7 +143,7 @@ INSTRUCTIONS = {"FROM", "COPY", "RUN", "USER", "VOLUME", "EXPOSE", "CMD", "HEALT
 def container():
     """The instructions of the file, each with its words as one text."""
     lines = re.sub(r"\\\n", " ", Path(CONTAINER).read_text()).splitlines()
-    found = [tuple(it.split(" ", 1)) for it in lines if it and not it.startswith("#")]
+    found = [tuple(line.split(" ", 1)) for line in lines if line and not line.startswith("#")]
     assert {it for it, _ in found} <= INSTRUCTIONS
     return dict(found)
 

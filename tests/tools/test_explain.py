@@ -42,7 +42,7 @@ NAMED = {**{getattr(FAULTY, it): f"{{{it}}}" for it in ("low", "top", "drv", "ow
 def expectations(name):
     """The lines of each fault in a file, by the fault."""
     parts = Path(HERE, "tests/tools", name).read_text().strip().split("\n\n")
-    return {part.split("\n")[0]: [it.strip() for it in part.split("\n")[1:]] for part in parts}
+    return {part.split("\n")[0]: [line.strip() for line in part.split("\n")[1:]] for part in parts}
 
 
 FAULTS, SCHEMAS, OTHERS = (expectations(f"explain_{it}.txt") for it in ("faults", "schemas", "others"))
@@ -58,7 +58,7 @@ def lines_of(output, named, dropped):
     """The lines of faults, with names in place of paths and of long texts, but for those that begin so."""
     for text, name in named.items():
         output = output.replace(text, name)
-    return [it[2:] for it in output.split("\n") if it.startswith("  ") and not it[2:].startswith(dropped)]
+    return [line[2:] for line in output.split("\n") if line.startswith("  ") and not line[2:].startswith(dropped)]
 
 
 def faults_of(schema):
@@ -113,7 +113,7 @@ def difference(text):
     """What a schema has that isn't among the tables of the third, or which of these it has."""
     text = text.replace(BEFORE, "")
     found = [it.strip() for it in statements(text) if it not in {*statements(ALL)}]
-    return " ".join(found) or " ".join(["only", *sorted(it for it in TABLES if making(it) in text)])
+    return " ".join(found) or " ".join(["only", *sorted(table for table in TABLES if making(table) in text)])
 
 
 OTHER_SCHEMAS = [*schemas()]
@@ -344,7 +344,7 @@ def test_another_program_with_a_name_in_use(folder):
 
 @pytest.mark.parametrize("words, status", [([], 2), (["--conf", "x", "{}"], 2), (["--help"], 0), (["{}"], 0)])
 def test_the_status_of_the_command(path, words, status):
-    assert subprocess.run([EXPLAIN, *[it.format(path) for it in words]], capture_output=True).returncode == status
+    assert subprocess.run([EXPLAIN, *[word.format(path) for word in words]], capture_output=True).returncode == status
 
 
 def test_a_full_disk(path):
@@ -357,7 +357,7 @@ def test_a_full_disk(path):
 def test_each_option_is_in(name):
     options = [it for action in explain.parser()._actions for it in action.option_strings if it.startswith("--")]
     text = Path(HERE, name).read_text().replace("\\-", "-")
-    assert [it for it in options if it not in text] == []
+    assert [option for option in options if option not in text] == []
 
 
 def test_a_file_and_its_folder_are_left_alone(program, folder):

@@ -200,9 +200,9 @@ NAMES = [f"{at:052}" for at in range(1000)]
 def listing(keys, more=None):
     """What a bucket lists, and the token of the next page or None."""
     each = "<Contents><Key>%s</Key><Size>5</Size><LastModified>2026-01-01T00:00:00Z</LastModified></Contents>"
-    told = "".join(each % it for it in keys)
-    told += f"<IsTruncated>true</IsTruncated><NextContinuationToken>{more}</NextContinuationToken>" if more else ""
-    return 200, "application/xml", f"<ListBucketResult>{told}</ListBucketResult>".encode()
+    listed = "".join(each % key for key in keys)
+    listed += f"<IsTruncated>true</IsTruncated><NextContinuationToken>{more}</NextContinuationToken>" if more else ""
+    return 200, "application/xml", f"<ListBucketResult>{listed}</ListBucketResult>".encode()
 
 
 @pytest.mark.needs("python3-boto3")
@@ -230,7 +230,7 @@ def test_a_bucket_that_lists_without_an_end(bucket, monkeypatch):
 
     def reply(*_):
         at = next(count)
-        return listing([f"p/{blobs.key_of(it)}" for it in NAMES[10 * at : 10 * at + 10]], f"x{at}")
+        return listing([f"p/{blobs.key_of(name)}" for name in NAMES[10 * at : 10 * at + 10]], f"x{at}")
 
     with answering(reply) as url, pytest.raises(blobs.Failed, match="more than 50 blobs"):
         list(bucket(url).list())

@@ -81,7 +81,7 @@ def test_base_names(rng, many):
 
 
 def some_references(rng):
-    return [f"{texts.base32(bytes([it]) * 20)}-r" for it in rng.choices(range(9), k=rng.randrange(4))]
+    return [f"{texts.base32(bytes([choice]) * 20)}-r" for choice in rng.choices(range(9), k=rng.randrange(4))]
 
 
 @pytest.mark.parametrize("kind", ["text", "source"])

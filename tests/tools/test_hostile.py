@@ -287,7 +287,7 @@ def test_no_reply_names_a_version(site):
                ann("POST", "/x", b"", "-i", "-H", "origin: https://evil.example"),
                ann("GET", "/x", None, "-i", "-H", f"x: {'x' * 40_000}"),
                parts.curl("-i", f"http://127.0.0.1:{site.port}/"), parts.curl("-i", *nobody.words, f"{nobody.url}/%zz")]
-    assert [it[0] for it in replies] == [200, 404, 403, 401, 200, 403, 413, 403, 400, 400, 400]
+    assert [reply[0] for reply in replies] == [200, 404, 403, 401, 200, 403, 413, 403, 400, 400, 400]
     for status, text in replies:
         assert not re.search(rb"nginx/|aiohttp|Python", text, re.I), (status, text)
 

@@ -34,7 +34,7 @@ def nginx(site, *changes):
     files = [Path(site.folder, "nginx.conf"), *Path(site.folder, "snippets").iterdir()]
     before = {it: it.read_text() for it in files}
     changes = [("/red.socket;", "/nobody.socket;"), *changes]
-    assert [old for old, _ in changes if not any(old in it for it in before.values())] == []
+    assert [old for old, _ in changes if not any(old in value for value in before.values())] == []
     for file, text in before.items():
         for old, new in changes:
             text = text.replace(old, new)
@@ -139,6 +139,6 @@ def test_a_network_of_ipv6_is_one_address(site):
             assert [wrong("GET", "/x", None, "-H", f"x-seen: {it}")[0] for it in one] == [401, 401, 401, 429], one
         parts.until("the lines", lambda: log.read_bytes()[before:].count(b"\n") == 3 * len(NETWORKS))
         lines = map(json.loads, log.read_bytes()[before:].splitlines())
-        assert [it["network"] for it in lines] == [it for it in NETWORKS for _ in range(3)]
+        assert [line["network"] for line in lines] == [it for it in NETWORKS for _ in range(3)]
         others = ["192.0.2.2", "::ffff:192.0.2.8", "2001:db8:1:4::1", "2001:db9::1"]
         assert [wrong("GET", "/x", None, "-H", f"x-seen: {it}")[0] for it in others] == [401] * 4

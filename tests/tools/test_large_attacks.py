@@ -117,7 +117,7 @@ def test_what_is_no_file_in_the_place_of_a_blob(rng, team_of):
         file.unlink()
         file.symlink_to(file)
         status, lines = team.verify()
-        named = any(it.startswith(f"damaged {file.name[:52]} ") for it in lines)
+        named = any(line.startswith(f"damaged {file.name[:52]} ") for line in lines)
         assert status == 1 and named and lines[-1].startswith("verified "), (
             "verify names a blob that can't be read", lines)
         file.unlink()
@@ -128,7 +128,7 @@ def test_what_is_no_file_in_the_place_of_a_blob(rng, team_of):
         team.file(unused[1]).unlink()
         team.file(unused[1]).mkdir()
         status, lines = team.tool("sweep")
-        words = [it.split()[0] for it in lines]
+        words = [line.split()[0] for line in lines]
         assert (status, words) == (1, ["deleted", "failed", "deleted", "deleted", "deleted", "swept"]), (
             "a sweep names what it can't delete, and deletes the others")
         team.file(unused[1]).rmdir()
@@ -183,8 +183,8 @@ def test_uploads_sweeps_collections_and_kills_at_once(team_of):
         tasks = [(upload, "build", 1), (upload, "carl", 2), (ask, "/sweep"), (ask, "/sweep"), (ask, "/collect")]
         with ThreadPoolExecutor(len(tasks)) as pool, contextlib.ExitStack() as at_the_end:
             at_the_end.callback(stop.set)
-            for it in tasks:
-                pool.submit(*it)
+            for task in tasks:
+                pool.submit(*task)
             for kill in (team.kill_server, lambda: team.end(signal.SIGKILL), team.kill_server):
                 before = len(replies)
                 parts.until("forty replies", lambda: len(replies) >= before + 40)
@@ -193,8 +193,8 @@ def test_uploads_sweeps_collections_and_kills_at_once(team_of):
                     team.start()
         assert replies.count(200) > 40, ("uploads were done meanwhile", replies)
         is_sound(team)
-        is_there = [team("ann", "GET", f"/nar/{it[11:]}")[1] in archives
-                    for it in team("ann", "GET", "/paths")[1].decode().split()]
+        is_there = [team("ann", "GET", f"/nar/{word[11:]}")[1] in archives
+                    for word in team("ann", "GET", "/paths")[1].decode().split()]
         assert is_there and all(is_there), ("and each object is read", is_there)
 
 
@@ -421,7 +421,7 @@ def test_room_for_others(folder):
         return names
 
     names = {owner: taken(owner, 100 * at) for at, owner in enumerate(("ann", "bob", "carl"))}
-    assert [len(it) for it in names.values()] == [8, 4, 2], "each user has half of what the others leave"
+    assert [len(value) for value in names.values()] == [8, 4, 2], "each user has half of what the others leave"
     for name in names["ann"]:
         waiting.use(name)
     assert len(taken("dora", 1000)) == 5, "what is in the store makes room for another user"

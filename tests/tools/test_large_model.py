@@ -93,8 +93,8 @@ class World:
         return await self.step(lambda: sorted(self.pointers))
 
     async def among(self, _, bases):
-        named = lambda: {it: collections.namedtuple("Found", "nar_hash")(MADE.nar_hash) for it in bases
-                         if it in self.pointers}
+        named = lambda: {base: collections.namedtuple("Found", "nar_hash")(MADE.nar_hash) for base in bases
+                         if base in self.pointers}
         return await self.step(named)
 
     async def imported(self, caller, base, given, size, blob):
@@ -148,8 +148,8 @@ class Run:
         return [at for at, wait in enumerate(self.waits) if wait and wait.is_ready()]
 
     def close(self):
-        for it in self.tasks:
-            it.close()
+        for task in self.tasks:
+            task.close()
 
 
 def search(make):
@@ -207,7 +207,7 @@ def test_no_order_loses_a_blob(scene):
 
 
 def test_without_the_lock_an_order_loses_one():
-    assert any(losing(NoLock, *it) for it in SCENES.values())
+    assert any(losing(NoLock, *value) for value in SCENES.values())
 
 
 def test_before_a_deletion_a_sweep_asks_again():

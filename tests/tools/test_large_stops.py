@@ -91,7 +91,7 @@ def test_uploads_that_differ(team, rng):
     given = [("path", path), ("nar-hash", nar.nar_hash(other))]
     assert team("build", "POST", "/import", body(*given, payload=archive))[0] == 400, "an import with another hash"
     assert team.fields(path)[0] == 404, "none of them is there"
-    assert [it["status"] for it in team.records()[-7:]] == [400, 201, 400, 201, 400, 400, 400]
+    assert [record["status"] for record in team.records()[-7:]] == [400, 201, 400, 201, 400, 400, 400]
     is_sound(team)
 
 

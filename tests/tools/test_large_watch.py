@@ -30,7 +30,7 @@ def team(program):
 
 def figures(team, *names):
     values = cached.figures(team, "ann")
-    return [values.get((f"nixkeep_{it}",)) for it in names]
+    return [values.get((f"nixkeep_{name}",)) for name in names]
 
 
 @needs_metrics
@@ -70,14 +70,14 @@ def test_a_sweep(team, rng, folder):
     assert team.put(unused)[0] == 201, "an archive without a record"
     size, old = team.file(unused).stat().st_size, time.time() - 100_000
     team.end()
-    for it in Path(team.blobs).glob("??/*"):
-        os.utime(it, (old, old))
+    for path in Path(team.blobs).glob("??/*"):
+        os.utime(path, (old, old))
     team.start()
     assert team.tool("sweep", "--dry-run")[0] == 0, "a sweep that is dry"
     assert figures(team, "sweep_timestamp_seconds", "sweep_deleted_total") == [None, 0], "is none"
     began = time.time()
     assert team.tool("sweep")[0] == 0, "a sweep"
-    left = [it.stat().st_size for it in Path(team.blobs).glob("??/*")]
+    left = [path.stat().st_size for path in Path(team.blobs).glob("??/*")]
     assert (figures(team, "sweep_deleted_total", "sweep_deleted_bytes_total", "sweep_left", "sweep_left_bytes") ==
             [1, size, 2, sum(left)]), "one was deleted, and two are left"
     last = figures(team, "sweep_timestamp_seconds")[0]

@@ -130,8 +130,8 @@ def test_what_is_logged(site):
     site.user(None)("POST", "/oauth2/sign_in", b"username=ann&password=wrong")
     site.user("ann")("GET", "/" + "x" * 3000)
     parts.until("three lines", lambda: file.read_bytes()[size:].count(b"\n") >= 3)
-    lines = [json.loads(it) for it in file.read_bytes()[size:].splitlines()]
-    assert [(it["status"], it["login"], it["user"], it["target"]) for it in lines] == [
+    lines = [json.loads(line) for line in file.read_bytes()[size:].splitlines()]
+    assert [(line["status"], line["login"], line["user"], line["target"]) for line in lines] == [
         (401, "failed", "", "/who"), (401, "failed", "", "/oauth2/sign_in"), (404, "", "ann", "/" + "x" * 299)]
 
 
@@ -140,10 +140,10 @@ def test_what_one_user_reads_is_no_other_users(site):
     read."""
     path = site.user("ann").add("kept", b"for ann\n")
     targets = [site.user("ann").archive(path), f"/{path[11:43]}.narinfo"]
-    for it in targets:
-        assert [site.user("ann")("GET", it)[0] for _ in range(2)] == [200] * 2
-        assert site.user("eve")("GET", it) == (403, b"denied: connect\n")
-        assert site.user(None)("GET", it)[0] == 401
+    for target in targets:
+        assert [site.user("ann")("GET", target)[0] for _ in range(2)] == [200] * 2
+        assert site.user("eve")("GET", target) == (403, b"denied: connect\n")
+        assert site.user(None)("GET", target)[0] == 401
 
 
 def test_large_archives_pass(site):

@@ -61,7 +61,7 @@ def test_a_random_graph_next_to_a_walk_from_each_root(seed):
         of = set().union(*(reach[at] for at, it in enumerate(roots) if (it.owner, it.kind) == key))
         others = set().union(*(reach[at] for at, it in enumerate(roots) if (it.owner, it.kind) != key))
         wanted[key] = size(of), size(of - others)
-    assert {(it.owner, it.kind): tuple(it.usage) for it in figures.lines()} == wanted
+    assert {(line.owner, line.kind): tuple(line.usage) for line in figures.lines()} == wanted
     for root, used in figures.roots():
         at = roots.index(root)
         assert tuple(used) == (size(reach[at]), size(set(reach[at]).difference(*reach[:at], *reach[at + 1 :])))
@@ -117,7 +117,7 @@ def test_words_about_a_file(large):
 @pytest.mark.parametrize("words, line", [(["--db", "/none.db"], "No such file"), (["--db", __file__], "database"),
                                          (["--why", "x", "--db", None], "14 bad-store-path")])
 def test_what_cannot_be_read_has_one_line(words, line, large):
-    came = ran(*[it or large[0] for it in words])
+    came = ran(*[word or large[0] for word in words])
     assert came.returncode == 1 and line in came.stderr and came.stderr.count("\n") == 1
 
 
@@ -250,16 +250,16 @@ class Browser:
 
     async def open(self, url):
         await self.ask("Page.navigate", url=url)
-        while not any(it.get("method") == "Page.loadEventFired" for it in self.events):
+        while not any(event.get("method") == "Page.loadEventFired" for event in self.events):
             self.events.append(json.loads((await self.socket.receive()).data))
-        self.events = [it for it in self.events if it.get("method") != "Page.loadEventFired"]
+        self.events = [event for event in self.events if event.get("method") != "Page.loadEventFired"]
 
     async def value(self, expression):
         return (await self.ask("Runtime.evaluate", expression=expression, returnByValue=True))["result"].get("value")
 
     def said(self):
         kinds = "Runtime.consoleAPICalled", "Runtime.exceptionThrown", "Log.entryAdded"
-        return [it for it in self.events if it["method"] in kinds]
+        return [event for event in self.events if event["method"] in kinds]
 
 
 async def looked_at(browser, url, width, scheme):
@@ -311,8 +311,8 @@ async def attacked(browser, site):
                 if title.startswith("done"):
                     break
                 await asyncio.sleep(0.1)
-            events = [it for it in browser.events if it.get("method") == "Network.responseReceived"]
-            seen = [it["params"]["response"] for it in events]
+            events = [event for event in browser.events if event.get("method") == "Network.responseReceived"]
+            seen = [event["params"]["response"] for event in events]
             statuses = [it["status"] for it in seen if it["url"].startswith(site.url)]
             assert title.startswith("done") and len(statuses) >= 2 and set(statuses) <= {403, 405}, (
                 f"a page of {host} asks for a collection by a form and by a script, and is denied", title, statuses)
@@ -380,7 +380,7 @@ def test_a_page_of_another_site_in_a_browser(site, browse):
 
 @needs_cache
 def test_a_collection(site):
-    dead = [it for it in site.paths if b"No root" in site.get("ann", f"/overview?why={it}")[1]]
+    dead = [path for path in site.paths if b"No root" in site.get("ann", f"/overview?why={path}")[1]]
     assert site.get("ann", "/report")[1].splitlines()[2].split()[1] == str(len(dead)).encode()
     site.post("/collect", b"")
     assert b"There is none." in site.newer(), "after a collection, once the page isn't fresh any more"
@@ -401,6 +401,6 @@ def test_a_drawing_that_fails(site, folder, monkeypatch):
     site.cache.end()
     monkeypatch.setenv("PATH", f"{folder}:{os.environ['PATH']}")
     site.cache.start()
-    texts = [site.get("build", f"/overview?why={it}")[1] for it in site.paths]
-    kept = [it for it in texts if b"first root" in it]
+    texts = [site.get("build", f"/overview?why={path}")[1] for path in site.paths]
+    kept = [text for text in texts if b"first root" in text]
     assert kept and all(b"There is no drawing" in it and b"<svg" not in it for it in kept)

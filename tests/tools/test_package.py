@@ -78,9 +78,9 @@ def test_the_archive_has_the_files_of_the_package(both):
     top = entries[0].name
     lines = ran(["dpkg-deb", "-c", deb])[1].splitlines()
     in_deb = sorted(it.split(maxsplit=5)[5].partition(" -> ")[0].removeprefix("./") for it in lines if it[0] != "d")
-    assert sorted(it.name.removeprefix(f"{top}/") for it in entries if not it.isdir()) == in_deb
-    assert all(it.uid == it.gid == 0 for it in entries)
-    run_by = [it.split()[5] for it in lines if it[0] == "-" and "x" in it[:10] and "/examples/" not in it]
+    assert sorted(entry.name.removeprefix(f"{top}/") for entry in entries if not entry.isdir()) == in_deb
+    assert all(entry.uid == entry.gid == 0 for entry in entries)
+    run_by = [line.split()[5] for line in lines if line[0] == "-" and "x" in line[:10] and "/examples/" not in line]
     assert [it for it in run_by if not it.startswith(("./usr/bin/", "./usr/lib/"))] == []
 
 
@@ -138,7 +138,7 @@ def calls_in(name):
     if not name.startswith("@"):
         return {name}
     lines = ran(["systemd-analyze", "syscall-filter", name])[1].splitlines()[1:]
-    return set().union(*[calls_in(it.strip()) for it in lines if it.strip() and "#" not in it])
+    return set().union(*[calls_in(line.strip()) for line in lines if line.strip() and "#" not in line])
 
 
 def calls_allowed(unit):
@@ -147,7 +147,7 @@ def calls_allowed(unit):
     for line in layout.content(unit).decode().splitlines():
         key, _, names = line.partition("=")
         if key == "SystemCallFilter":
-            calls = set().union(*[calls_in(it) for it in names.removeprefix("~").split()])
+            calls = set().union(*[calls_in(word) for word in names.removeprefix("~").split()])
             found = found - calls if names.startswith("~") else found | calls
     return found
 
@@ -190,7 +190,7 @@ class Root:
     def files(self):
         """The files and links below usr and etc."""
         tops = [f"{self.root}/{it}" for it in ("usr", "etc")]
-        found = [f"{at}/{it}" for top in tops for at, _, names in os.walk(top) for it in names]
+        found = [f"{at}/{name}" for top in tops for at, _, names in os.walk(top) for name in names]
         return sorted(str(Path(it).relative_to(self.root)) for it in found)
 
 
@@ -214,9 +214,9 @@ def fresh(deb, folder):
 @needs_dpkg
 def test_dpkg_lists_the_package(installed):
     asked = ["dpkg-query", f"--admindir={installed.root}/var/lib/dpkg", "-W"]
-    _, told = ran([*asked, "-f", "${Status} ${Version}${Conffiles}", "nixkeep"])
-    assert told.startswith(f"install ok installed {layout.version()}")
-    assert f" /{CONFIGURATION} " in told, "the configuration is one that dpkg keeps"
+    _, printed = ran([*asked, "-f", "${Status} ${Version}${Conffiles}", "nixkeep"])
+    assert printed.startswith(f"install ok installed {layout.version()}")
+    assert f" /{CONFIGURATION} " in printed, "the configuration is one that dpkg keeps"
 
 
 @needs_dpkg
@@ -238,8 +238,8 @@ def test_the_program_names_no_file_of_the_toolchain(installed):
 
 def not_compiled(folder):
     """The modules of an installation that aren't compiled, by Debian's Python or by the one that there is."""
-    modules = {it.removesuffix(".py") for it in os.listdir(f"{folder}/nixkeep_tools") if it.endswith(".py")}
-    made = {Path(it).name.split(".")[0] for it in glob.glob(f"{folder}/nixkeep_tools/__pycache__/*.pyc")}
+    modules = {name.removesuffix(".py") for name in os.listdir(f"{folder}/nixkeep_tools") if name.endswith(".py")}
+    made = {Path(path).name.split(".")[0] for path in glob.glob(f"{folder}/nixkeep_tools/__pycache__/*.pyc")}
     return sorted(modules - made)
 
 
@@ -330,7 +330,7 @@ def test_bin_install_removes_what_it_has_installed(prefix):
     for it in others:
         open(it, "w").close()
     assert install("--remove", "--prefix", prefix) == (0, "")
-    assert sorted(f"{at}/{it}" for at, _, names in os.walk(prefix) for it in names) == sorted(others)
+    assert sorted(f"{at}/{name}" for at, _, names in os.walk(prefix) for name in names) == sorted(others)
     folders = sorted(str(Path(at).relative_to(prefix)) for at, _, _ in os.walk(prefix))
     assert folders == [".", "bin", "share", "share/man", "share/man/man1"], "no empty folder"
     status, said = install("--remove", "--prefix", prefix)

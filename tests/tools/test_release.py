@@ -96,7 +96,7 @@ def test_a_changed_byte(released, clone, refused, has_run, file, key, at, why):
         released.run(top=clone, path=SYSTEM)
     if key:
         lines = Path(clone, file).read_text().splitlines(True)
-        number = [it.partition(":")[0] for it in lines].index(key)
+        number = [line.partition(":")[0] for line in lines].index(key)
         at += sum(map(len, lines[: number + (at < 0)]))
     flip(f"{clone}/{file}", at)
     refused(why)

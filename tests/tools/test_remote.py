@@ -84,7 +84,7 @@ def test_words_of_the_help():
     assert ran([REMOTE, "--version"]) == (0, f"nixkeep-remote {version}\n".encode(), b"")
     status, output, _ = ran([REMOTE, "--help"])
     assert status == 0
-    assert [it.name for it in subcommands.COMMANDS if f"\n  {it.name} ".encode() not in output] == []
+    assert [command.name for command in subcommands.COMMANDS if f"\n  {command.name} ".encode() not in output] == []
 
 
 @pytest.mark.parametrize("line", ["--help", "who", "list", "report", "add-text|x", "cat-nar|x", "gc"])
@@ -104,9 +104,9 @@ def test_what_takes_long_to_load_is_not_loaded(line, program):
 def test_words_of_pages(page):
     """The completion and the manual page have each subcommand and each option."""
     text = Path(HERE, page).read_text().replace("\\-", "-")
-    words = [it.name for it in subcommands.COMMANDS]
+    words = [command.name for command in subcommands.COMMANDS]
     words += [f"--{option}" for it in (subcommands.TOP, *subcommands.COMMANDS) for option in it.options]
-    assert [it for it in words if it not in text] == []
+    assert [word for word in words if word not in text] == []
 
 
 def completed(command, *words, **more):
@@ -492,11 +492,11 @@ def recording(answers):
     with socket.create_server(("127.0.0.1", 0)) as listener:
         def run():
             with contextlib.closing(listener.accept()[0]) as peer, peer.makefile("rb") as came:
-                for it in answers:
+                for answer in answers:
                     seen.append(came.readline().decode().rpartition(" ")[0])
                     while came.readline().strip():
                         pass
-                    peer.sendall(it)
+                    peer.sendall(answer)
 
         threading.Thread(target=run, daemon=True).start()
         yield f"http://127.0.0.1:{listener.getsockname()[1]}", seen
@@ -638,10 +638,10 @@ def pytest_generate_tests(metafunc):
 @pytest.fixture(scope="module")
 def by_servers(program, pool, request):
     """The runs of the cases that are chosen, whose commands are done by servers. They run side by side."""
-    names = [it.callspec.params["case"] for it in request.session.items if it.originalname == "test_cases"]
+    names = [item.callspec.params["case"] for item in request.session.items if item.originalname == "test_cases"]
     with tempfile.TemporaryDirectory() as folder, stand_in.answering(program, folder) as (file, _):
         programs = {"nixkeep": file, "in-pieces": file_of(folder, "in-pieces", IN_PIECES, 0o755)}
-        yield {it: pool.submit(cases.run_case, f"{cases.CASES}/{it}", programs, SECONDS) for it in names}
+        yield {name: pool.submit(cases.run_case, f"{cases.CASES}/{name}", programs, SECONDS) for name in names}
 
 
 def test_cases_that_are_listed():

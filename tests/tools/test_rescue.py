@@ -30,13 +30,13 @@ def fifty(rng):
     """A store of 50 objects, and the path of one that others refer to in no way."""
     built, paths = Built(), []
     for at in range(50):
-        refs = rng.sample([it for it in paths if not it.endswith("-object20")], min(at, 2) if at != 20 else 0)
+        refs = rng.sample([path for path in paths if not path.endswith("-object20")], min(at, 2) if at != 20 else 0)
         contents = rng.randbytes(rng.choice([20, 300, 70_000]))
         if at % 3:
             paths.append(built.put_source(f"object{at}", archive(contents), refs))
         else:
             paths.append(built.put(hidden(f"object{at}"), archive(contents), [*refs, hidden(f"object{at}")]))
-    kept = [it for it in paths if not it.endswith("-object20")]
+    kept = [path for path in paths if not path.endswith("-object20")]
     world = built.world
     world.permanent["base"], world.user["ann", "mine"], world.user["bob", "lost"] = kept[0], kept[1], paths[20]
     world.profiles["ann", "tools"] = Profile({1: kept[2], 2: kept[3], 4: paths[20], 7: kept[4], 8: kept[4]}, 2)
@@ -96,7 +96,7 @@ def test_a_rescue_of_the_roots(rescue):
     labels = {(target, label) for kind, target, label in rescue.world.roots() if kind != 2 and target != rescue.lost}
     generations = rescue.world.profiles["ann", "tools"].generations
     labels |= {(generations[was], f"profiles/per-user/ann/tools-{now}-link") for was, now in number.items()}
-    assert {(it.target, it.label) for it in rescue.store.roots} == labels
+    assert {(root.target, root.label) for root in rescue.store.roots} == labels
     assert rescue.store.current == {("ann", "tools"): 2}
 
 
@@ -185,7 +185,7 @@ def test_rescues_by_chance(rng, folder, many):
                     head, _, body = file.read().partition(b"\n\n")
                 was = world.objects[name.split("-", 1)[1]]
                 lines = head.decode().split("\n")
-                refs = {it.split("/")[-1] for it in lines if it.startswith("reference: ")}
+                refs = {line.split("/")[-1] for line in lines if line.startswith("reference: ")}
                 report.same(name, (body, refs), (was.archive, was.references), path)
                 written += 1
         os.remove(path)
@@ -210,9 +210,9 @@ def test_usage(nixkeep, folder, seed, at):
     world = some_store(rng, path, 3)
     output, status, _ = explained("--usage", path)
     assert status == 0
-    lines = [it.split() for it in output.split("\n")]
-    told = {words[0]: words[2] for words in (it.split() for it in nixkeep(path, "report")[0].split("\n")[1:4])}
-    assert {it[1]: it[0] for it in lines if it[1:] in (["live"], ["dead"], ["total"])} == told
+    lines = [line.split() for line in output.split("\n")]
+    reported = {words[0]: words[2] for words in (line.split() for line in nixkeep(path, "report")[0].split("\n")[1:4])}
+    assert {line[1]: line[0] for line in lines if line[1:] in (["live"], ["dead"], ["total"])} == reported
     with store_file.open_store(path) as conn:
         store = store_file.read(conn)
     roots = [(it.kind, it.target, it.label, it.owner) for it in store.roots]

@@ -89,7 +89,7 @@ class Adding:
 def numbers(program, copy):
     """The numbers of the texts in a copy, or what the program says of it."""
     came = ran(program, "--db", copy, "--user", "ann", "list")
-    return came.stderr or sorted(int(it.rpartition("-n")[2]) for it in came.stdout.split())
+    return came.stderr or sorted(int(word.rpartition("-n")[2]) for word in came.stdout.split())
 
 
 def test_snapshots(program, folder, count, holder, inside, file_system):

@@ -76,7 +76,7 @@ def test_said_settings(path):
 @of_unit
 def test_said_options(path):
     """The tools that a unit starts have the subcommands and all options that it names."""
-    for line in [it for key, values in settings_of(path).items() if key.startswith("Exec") for it in values]:
+    for line in [value for key, values in settings_of(path).items() if key.startswith("Exec") for value in values]:
         for tool, words in re.findall(r"/usr/bin/(nixkeep-[a-z]+)([^;|]*)", line):
             if (known := options_of(tool)) is None:
                 pytest.skip(f"{tool}: a module of Python that it needs isn't installed")
@@ -99,7 +99,7 @@ def instance(path, folder):
 @pytest.mark.needs("systemd-analyze")
 def test_said_faults(instance, folder):
     errors = ran(["systemd-analyze", "verify", "--man=no", instance], cwd=folder)[2].decode()
-    assert [it for it in errors.splitlines() if "nixkeep" in it] == []
+    assert [line for line in errors.splitlines() if "nixkeep" in line] == []
 
 
 @of_unit
@@ -228,7 +228,7 @@ class Load:
     def check(self, lost=None):
         """Each add was done, and is in the store. `lost` is the pattern of what a client may see whose connection was
         lost."""
-        done = [it for it in self.answers if re.fullmatch(r"/nix/store/\S+ 200", it)]
+        done = [answer for answer in self.answers if re.fullmatch(r"/nix/store/\S+ 200", answer)]
         assert [it for it in self.answers if it not in done and not (lost and re.fullmatch(lost, it))] == []
         assert len(done) >= self.clients, "there were adds"
         listed = self.machine.output(f"{AS_ANN}/paths").split()

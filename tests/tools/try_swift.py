@@ -31,7 +31,7 @@ def fetched(team, servers, rng):
         same("and a range of it", (part[0], part[1] == whole[1000:3000]), (206, True))
         same("it is uploaded to another path", team.upload(some_path(rng, "again"), archive)[0], 200)
     keys = [it["Key"] for it in servers.client().list_objects_v2(Bucket=swift.BUCKET)["Contents"]]
-    same("two archives at four paths are two objects", len([it for it in keys if it.endswith(".nar.zst")]), 2)
+    same("two archives at four paths are two objects", len([key for key in keys if key.endswith(".nar.zst")]), 2)
     return archive, path
 
 

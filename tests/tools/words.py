@@ -32,4 +32,4 @@ def options_of_program(file: str) -> set[str]:
     """The options of the subcommands of nixkeep, but for those of a server: nixkeep-remote has them too."""
     names = re.findall(r"^  ([a-z][a-z-]*)  ", said(file).partition("Commands:")[2].partition("Options:")[0], re.M)
     own = options_in(said(file)) - {"--help"}
-    return {option for it in names if it not in ("help", "serve") for option in options_in(said(file, it)) - own}
+    return {option for name in names if name not in ("help", "serve") for option in options_in(said(file, name)) - own}

@@ -173,7 +173,7 @@ def ended(words: argparse.Namespace) -> None:
     """Writes the figures where that is asked for, and ends with 1 where one misses its limit."""
     if words.records:
         Path(words.records).write_text(json.dumps(records))
-    sys.exit(1 if any(it.get("is_met") is False for it in records) else 0)
+    sys.exit(1 if any(record.get("is_met") is False for record in records) else 0)
 
 
 def program(words: argparse.Namespace) -> Runs:

@@ -81,7 +81,7 @@ def lines_of(name: str, measured: dict) -> Iterator[str]:
     of_section = lambda it: f"*skipped: {it['skipped']}*" if "skipped" in it else f"*{it['section']}*"
     for section, figures in itertools.groupby(measured[name]["figures"], of_section):
         yield heading(section)
-        yield from (row(it) for it in figures if "skipped" not in it)
+        yield from (row(figure) for figure in figures if "skipped" not in figure)
 
 
 # ---- the page
@@ -89,7 +89,7 @@ def lines_of(name: str, measured: dict) -> Iterator[str]:
 
 def facts(measured):
     """What the figures depend on: the newest run, the newest version of each peer, and what other runs measured."""
-    runs = sorted((it["facts"] for it in measured.values()), key=lambda it: it["Date"])
+    runs = sorted((value["facts"] for value in measured.values()), key=lambda it: it["Date"])
     now = runs[-1] if runs else {}
     versions = {word: text for run in runs for word, text in run.items() if text != "not installed"}
     peers = [word for word in now if word not in ("Machine", "Date", "Commit")]

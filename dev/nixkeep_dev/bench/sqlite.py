@@ -39,7 +39,7 @@ def insert(conn: sqlite3.Connection, name: str, nar: bytes, digest: bytes) -> No
 
 
 def refer(conn: sqlite3.Connection, name: str, targets: Iterable[int]) -> None:
-    conn.executemany("INSERT INTO refs (base, target) VALUES (?1, ?2)", [(name, base(it)) for it in targets])
+    conn.executemany("INSERT INTO refs (base, target) VALUES (?1, ?2)", [(name, base(target)) for target in targets])
 
 
 def filled(run: Callable, path: str, objects: int, size: int, references: int, roots: Iterable[int] = (),
@@ -53,7 +53,7 @@ def filled(run: Callable, path: str, objects: int, size: int, references: int, r
             nar = archive(number.to_bytes(8, "little") * (size // 8))
             insert(conn, base(number), nar, hashlib.sha256(nar).digest())
             targets = {(number + near + 1) % objects for near in range(references)}
-            refer(conn, base(number), [it for it in targets if is_ring or it > number])
+            refer(conn, base(number), [target for target in targets if is_ring or target > number])
         named = [(f"root{at}", base(it)) for at, it in enumerate(roots)]
         conn.executemany("INSERT INTO permanent VALUES (?1, ?2)", named)
         conn.execute("COMMIT")

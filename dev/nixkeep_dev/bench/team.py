@@ -28,8 +28,8 @@ def configuration() -> str:
 
 def sizes(rng, count, total):
     """The sizes in bytes of files of this machine's /usr, drawn by chance: together at most 16 MiB above `total`."""
-    files = (f"{at}/{it}" for at, _, names in os.walk("/usr") for it in sorted(names))
-    each = [os.lstat(it).st_size for it in files if Path(it).is_file() and not Path(it).is_symlink()]
+    files = (f"{at}/{name}" for at, _, names in os.walk("/usr") for name in sorted(names))
+    each = [os.lstat(file).st_size for file in files if Path(file).is_file() and not Path(file).is_symlink()]
     each, found, together = [it for it in each if it <= LIMIT - FRAME - 8], [], 0
     while len(found) < count:
         size = rng.choice(each)
@@ -65,7 +65,7 @@ class Team:
         nar = archive(self.rng.randbytes(size))
         digest = hashlib.sha256(nar).digest()
         insert(conn, name, nar, digest)
-        conn.executemany("INSERT INTO refs (base, target) VALUES (?1, ?2)", [(name, it) for it in refs])
+        conn.executemany("INSERT INTO refs (base, target) VALUES (?1, ?2)", [(name, ref) for ref in refs])
         # (the model counts the bytes of an archive alone, so a range of their length has its place)
         self.world.objects[name] = worlds.Object(range(len(nar)), frozenset(refs), None, None, [])
         self.digests[name] = digest

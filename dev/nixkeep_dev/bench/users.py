@@ -51,7 +51,7 @@ class User:
         self.made += 1
         refs = self.rng.sample(self.team.kept(self.rng), REFERENCES)
         contents = self.rng.randbytes(self.rng.choice([200, 2000, 20_000]))
-        named = [("name", f"{self.name}-{self.made}"), *[("reference", it) for it in refs]]
+        named = [("name", f"{self.name}-{self.made}"), *[("reference", ref) for ref in refs]]
         path = self.same("add", "POST", "/text", lines(*named, payload=contents))
         if self.made % 2:
             self.same("root", "POST", f"/root/user/{self.name}/at{self.made}", lines(("path", path)))
@@ -83,7 +83,7 @@ class User:
         for at in range(OF_CLOSURE):
             path = hidden(f"pushed{self.made}-{at}")
             nar = archive(self.rng.randbytes(self.rng.choice([500, 2000, 50_000])))
-            named = [("path", path), ("nar-hash", nar_hash(nar)), *[("reference", it) for it in refs]]
+            named = [("path", path), ("nar-hash", nar_hash(nar)), *[("reference", ref) for ref in refs]]
             self.same("import", "POST", "/import", lines(*named, payload=nar))
             refs = [path]
         self.same("root", "POST", f"/root/permanent/pushed{self.made}", lines(("path", refs[0])))

@@ -24,7 +24,7 @@ def version() -> str:
 def names_in(folder: str) -> list[str]:
     """The names of the plain files in a folder of the repository, in order; none where the folder isn't there."""
     at = f"{HERE}/{folder}"
-    return sorted(it for it in os.listdir(at) if Path(f"{at}/{it}").is_file()) if Path(at).is_dir() else []
+    return sorted(name for name in os.listdir(at) if Path(f"{at}/{name}").is_file()) if Path(at).is_dir() else []
 
 
 def content(path: str) -> bytes:
@@ -41,7 +41,7 @@ def tools():
     programs = [it for it in names_in("tools") if it.startswith("nixkeep-")]
     modules = [f"nixkeep_tools/{it}" for it in names_in("tools/nixkeep_tools") if it.endswith(".py")]
     files = [(f"lib/nixkeep/{it}", f"{HERE}/tools/{it}", 0o755) for it in programs]
-    files += [(f"lib/nixkeep/{it}", f"{HERE}/tools/{it}", 0o644) for it in modules]
+    files += [(f"lib/nixkeep/{module}", f"{HERE}/tools/{module}", 0o644) for module in modules]
     files += [("lib/nixkeep/VERSION", f"{HERE}/VERSION", 0o644)]
     return files, [(f"bin/{it}", f"../lib/nixkeep/{it}") for it in programs]
 
@@ -59,7 +59,7 @@ def parts(file: str) -> tuple[list, list]:
     files, links = tools()
     files = [(f"bin/{program.NAME}", file, 0o755), *files]
     pages = [it for it in names_in("man") if re.search(r"\.[1-8]$", it)]
-    files += [(f"share/man/man{it[-1]}/{it}", f"{HERE}/man/{it}", 0o644) for it in pages]
+    files += [(f"share/man/man{page[-1]}/{page}", f"{HERE}/man/{page}", 0o644) for page in pages]
     shells = [(completion_of(it), f"{HERE}/completion/{it}", 0o644) for it in names_in("completion")]
     return files + [it for it in shells if it[0]], links
 
@@ -76,7 +76,7 @@ def examples(folder):
     found = []
     for at, folders, names in os.walk(f"{HERE}/{folder}"):
         folders[:] = sorted(it for it in folders if it not in ("out", "__pycache__"))
-        found += [str(Path(f"{at}/{it}").relative_to(HERE)) for it in sorted(names)]
+        found += [str(Path(f"{at}/{name}").relative_to(HERE)) for name in sorted(names)]
     return found
 
 
@@ -84,7 +84,7 @@ def sources() -> str:
     """The sums of all files that the proof of the program has read, as sha256sum writes and checks them."""
     crates = program.with_below(program.NAME, program.listed())
     paths = ["HANDLES", "crates.txt", *[it for crate in crates for it in program.files_of(crate)]]
-    return "".join(f"{sum_of(f'{HERE}/{it}')}  {it}\n" for it in paths)
+    return "".join(f"{sum_of(f'{HERE}/{path}')}  {path}\n" for path in paths)
 
 
 def packed(data: bytes) -> bytes:

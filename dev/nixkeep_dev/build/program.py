@@ -115,7 +115,7 @@ def files_of(crate: str) -> list[str]:
         for at, folders, names in os.walk(f"{HERE}/crates/{crate}/{part}"):
             folders.sort()
             place = at.removeprefix(f"{HERE}/")
-            found += [f"{place}/{it}" for it in sorted(names) if it.endswith((".rt", ".antt"))]
+            found += [f"{place}/{name}" for name in sorted(names) if name.endswith((".rt", ".antt"))]
     return found
 
 
@@ -224,7 +224,7 @@ def prove(tops: Iterable[str], why: str | None = None) -> bool:
     present sources: it prints that it does and, if that is given, why. Returns whether there was anything to do."""
     named, by = listed(), toolchain_line()
     found = sources(named, tops)
-    if all(is_kept(it, found[it], by) for it in tops):
+    if all(is_kept(top, found[top], by) for top in tops):
         return False
     fault = fault_of_toolchain()
     if fault:

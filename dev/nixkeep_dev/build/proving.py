@@ -229,7 +229,7 @@ class Schedule:
         one job costs a third more of processor time, so only the crate with the longest chain above it gets all
         that it can use, and another gets a second one only where too few are ready for the idle processors."""
         idle = self.lanes - sum(self.running.values())
-        room = self.memory - sum(self.plan.needs(*it) for it in self.running.items())
+        room = self.memory - sum(self.plan.needs(*item) for item in self.running.items())
         is_first = all(self.plan.chain[crate] > self.plan.chain[it] for it in self.running)
         most = min(MOST if is_first else 2 if idle // ready > 2 else 1, processors(), idle)
         fitting = [it for it in range(1, most + 1) if self.plan.needs(crate, it) <= room]

@@ -52,7 +52,7 @@ def listed(prefix):
 
 def write_list(fresh, places):
     with open(fresh, "w", encoding="utf-8") as file:
-        file.writelines(f"{it}\n" for it in places)
+        file.writelines(f"{place}\n" for place in places)
     os.chmod(fresh, 0o644)
 
 
@@ -77,7 +77,7 @@ def remove(prefix):
     places = listed(prefix)
     if places is None:
         sys.exit(f"bin/install: nothing that lists what it wrote is installed in {prefix}")
-    if wrong := [it for it in places if it.startswith("/") or ".." in it.split("/")]:
+    if wrong := [place for place in places if place.startswith("/") or ".." in place.split("/")]:
         sys.exit(f"bin/install: {prefix}/{LIST}: {wrong[0]} isn't below the prefix")
     delete(prefix, [*places, LIST])
 

@@ -73,8 +73,8 @@ def changelog(when):
         if version == "Unreleased":
             continue
         lines = re.findall(r"^- (.*(?:\n  .*)*)", text, re.M)
-        items = [textwrap.fill(" ".join(it.split()), 76, initial_indent="  * ", subsequent_indent="    ",
-                               break_long_words=False, break_on_hyphens=False) for it in lines]
+        items = [textwrap.fill(" ".join(line.split()), 76, initial_indent="  * ", subsequent_indent="    ",
+                               break_long_words=False, break_on_hyphens=False) for line in lines]
         items = "\n".join(items)
         yield f"{program.NAME} ({version}) stable; urgency=medium\n\n{items}\n\n -- {maintainer}  {formatdate(when)}\n"
 
@@ -90,7 +90,7 @@ def put_documents(top, is_proved, when):
 
 
 def files_below(top):
-    return sorted(str(Path(at, it).relative_to(top)) for at, _, names in os.walk(top) for it in names)
+    return sorted(str(Path(at, name).relative_to(top)) for at, _, names in os.walk(top) for name in names)
 
 
 def libc_of(file):

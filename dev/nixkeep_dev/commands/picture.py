@@ -51,7 +51,7 @@ class Store:
 
     def fill(self) -> None:
         for user, name, file, references in ADDED:
-            words = ["add-text", name, *(self.paths[it] for it in references)]
+            words = ["add-text", name, *(self.paths[reference] for reference in references)]
             self.paths[name] = self.run(user, *words, given=Path(HERE, file).read_bytes())
         for user, *words in KEPT:
             self.run(user, *words[:-1], self.paths[words[-1]])

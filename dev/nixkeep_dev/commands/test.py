@@ -53,11 +53,11 @@ def by_itself(part, known):
 def whole_part(words):
     """The file that runs a part, and the names that are given to it; the files of cases."""
     if words.part == "cases":
-        return [f"{CASES}/{it.removesuffix('.txt')}.txt" for it in words.names] or [CASES]
+        return [f"{CASES}/{name.removesuffix('.txt')}.txt" for name in words.names] or [CASES]
     names = words.names
     if words.part == "sabotage" and names:
         # (a name is some words of the fault's)
-        names = ["-k", " or ".join(f"({' and '.join(it.split())})" for it in names)]
+        names = ["-k", " or ".join(f"({' and '.join(name.split())})" for name in names)]
     return [file_of(f"gate/{BY_THEMSELVES[words.part]}"), *names]
 
 

@@ -55,7 +55,7 @@ def command_text(step):
     if step.cuts:
         pieces = "; sleep 0.1; ".join(map(printf, pieces_of(step)))
         return f"{{ {pieces}; }} | {command}"
-    parts = [printf(it) for it in step.parts if it]
+    parts = [printf(part) for part in step.parts if part]
     if not parts:
         return command + " </dev/null"
     return "{ " + ";\n".join(parts) + f"; }} | {command}" if len(parts) > 1 else f"{parts[0]} | {command}"

@@ -125,7 +125,7 @@ def temp_request(command, caller, store_dir):
 def name_and_references(command, store_dir):
     name, *references = command.values
     refuse(12, not is_store_name(name))
-    return name, [base_of(store_dir, it) for it in references]
+    return name, [base_of(store_dir, reference) for reference in references]
 
 
 def add_request(command, store_dir, given):
@@ -139,7 +139,7 @@ def removal_request(command, store_dir):
     if command.word == "gc":
         limit = command.given.get("max-freed")
         return request_of("collect", ignore_liveness=ignores, limit=None if limit is None else payloads.limit_of(limit))
-    return request_of("delete", ignore_liveness=ignores, paths=[base_of(store_dir, it) for it in command.values])
+    return request_of("delete", ignore_liveness=ignores, paths=[base_of(store_dir, value) for value in command.values])
 
 
 NAMED = {"info": "info", "cat-nar": "archive", "why": "roots-of"}

@@ -87,7 +87,7 @@ def write(outs: list, inputs: Iterable = (), sources: Iterable = (), platform: b
           args: Iterable = (), env: Iterable = ()) -> bytes:
     """The text of a derivation with these parts."""
     return b"Derive" + tupled(
-        listed(tupled(*map(quoted, it)) for it in outs),
+        listed(tupled(*map(quoted, out)) for out in outs),
         listed(tupled(quoted(path), listed(map(quoted, names))) for path, names in inputs),
         listed(map(quoted, sources)),
         quoted(platform),

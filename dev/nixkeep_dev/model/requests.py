@@ -181,7 +181,7 @@ class Requests(Values):
     def addressed(self, kind, base, made):
         """A base name and a content address that most often fits it."""
         try:
-            references = [texts.base_of(self.dir, it) for it in made.references]
+            references = [texts.base_of(self.dir, reference) for reference in made.references]
             plain = archives.plain_contents(archives.read(made.payload))
         except texts.Refused:
             references, plain = [], None

@@ -184,7 +184,7 @@ class Values:
     def derivation(self, by: Choices) -> bytes:
         outs = [self.output(by) for _ in range(by.number(4))]
         if not by.chance(0.2):
-            outs = [*{it[0]: it for it in outs}.values()]
+            outs = [*{out[0]: out for out in outs}.values()]
         text = derivations.write(
             outs,
             [(by.pick(WORDS), by.some(OUTPUTS, 2)) for _ in range(by.number(3))],
@@ -208,7 +208,7 @@ class Values:
         return self.often("label", LABELS, ODD_LABELS, by)
 
     def written(self, items: Iterable[int], by: Choices, odd: Sequence[str] = ODD_NUMBERS) -> str:
-        return self.often("number", [str(it) for it in items], odd, by)
+        return self.often("number", [str(item) for item in items], odd, by)
 
 
 # ---- configurations
@@ -222,12 +222,12 @@ def text(value: str, by: Choices) -> str:
 def listed(items: Iterable[str], by: Choices) -> str:
     """An array of a configuration, on one line or on more."""
     if by.chance(0.2):
-        return "[\n" + "".join(f"  {text(it, by)}, # one\n" for it in items) + "]"
-    return "[" + ", ".join(text(it, by) for it in items) + "]"
+        return "[\n" + "".join(f"  {text(item, by)}, # one\n" for item in items) + "]"
+    return "[" + ", ".join(text(item, by) for item in items) + "]"
 
 
 def entries(by: Choices) -> str:
-    return listed(by.some([*USERS, *(f"@{it}" for it in GROUPS), "@admins", "nobody", "*"], 3), by)
+    return listed(by.some([*USERS, *(f"@{group}" for group in GROUPS), "@admins", "nobody", "*"], 3), by)
 
 
 def group_lines(by: Choices) -> tuple[list[str], list[str]]:
@@ -235,7 +235,7 @@ def group_lines(by: Choices) -> tuple[list[str], list[str]]:
     groups = {name: by.some(USERS, 2) for name in ("wheel", "users", "admins") if by.chance(0.6)}
     form, lines = by.number(3), [f"{name} = {listed(users, by)}" for name, users in groups.items()]
     if form == 0 and groups:
-        pairs = [f"{name} = [{', '.join(text(it, by) for it in users)}]" for name, users in groups.items()]
+        pairs = [f"{name} = [{', '.join(text(user, by) for user in users)}]" for name, users in groups.items()]
         return [f"groups = {{ {', '.join(pairs)} }}"], []
     if form == 1:
         return [f"groups.{line}" for line in lines], []

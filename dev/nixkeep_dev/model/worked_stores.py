@@ -27,29 +27,29 @@ class Worked:
 def body(base, archive, references=(), digest=None, **lines):
     """The body of an import."""
     digest = digest or "sha256:" + texts.base32(texts.sha256(archive))
-    found = [f"path: {base}", f"nar-hash: {digest}", *(f"reference: {it}" for it in references)]
+    found = [f"path: {base}", f"nar-hash: {digest}", *(f"reference: {reference}" for reference in references)]
     found += [f"{key}: {value}" for key, value in lines.items()]
     return "\n".join([*found, "", ""]).encode() + archive
 
 
 def adds():
-    told = Worked()
-    yield told.run("ann add-source myfile", MINE), MYFILE + "\n"
-    yield told.run(f"ann info {MYFILE}"), (
+    worked = Worked()
+    yield worked.run("ann add-source myfile", MINE), MYFILE + "\n"
+    yield worked.run(f"ann info {MYFILE}"), (
         f"StorePath: {MYFILE}\nURL: nar/{MYFILE}\nCompression: none\nFileHash: sha256:{MYHASH}\nFileSize: 128\n"
         f"NarHash: sha256:{MYHASH}\nNarSize: 128\nReferences: \nCA: fixed:r:sha256:{MYHASH}\n"
     )
-    yield told.run("ann add-source myfile", MINE) + told.run("ann list"), f"{MYFILE}\n" * 2
-    told = Worked(CONFIG)
-    path = told.run("ann add-text empty")
+    yield worked.run("ann add-source myfile", MINE) + worked.run("ann list"), f"{MYFILE}\n" * 2
+    worked = Worked(CONFIG)
+    path = worked.run("ann add-text empty")
     yield path[32:], "-empty\n"
-    yield told.run("ann report").splitlines()[3], "total           1              112"
-    told = Worked()
+    yield worked.run("ann report").splitlines()[3], "total           1              112"
+    worked = Worked()
     path = texts.text_path("/nix/store", "t", [], b"hello")
-    yield told.add(path, archive=archives.file_archive(b"other")), path + "\n"
-    yield told.run("ann add-text t", b"hello"), path + "\n"
-    yield told.run(f"ann cat-nar {path}").encode(), archives.file_archive(b"other")
-    yield "CA" in told.run(f"ann info {path}"), False
+    yield worked.add(path, archive=archives.file_archive(b"other")), path + "\n"
+    yield worked.run("ann add-text t", b"hello"), path + "\n"
+    yield worked.run(f"ann cat-nar {path}").encode(), archives.file_archive(b"other")
+    yield "CA" in worked.run(f"ann info {path}"), False
 
 
 def imports():
@@ -61,23 +61,23 @@ def imports():
     yield Worked().add(MYFILE, archive=MINE, ca=f"text:sha256:{ABC}", user="ann"), "refused: 16 ca-mismatch\n"
     yield Worked().add(MYFILE, archive=MINE, user="ann"), "denied: trusted-import\n"
     yield Worked().add(MYFILE, archive=b"x", user="ann"), "denied: trusted-import\n"
-    told = Worked()
-    yield told.add(MYFILE, archive=MINE, deriver=D, **right), MYFILE + "\n"
-    yield f"Deriver: {D}\n" in told.run(f"ann info {MYFILE}"), True
+    worked = Worked()
+    yield worked.add(MYFILE, archive=MINE, deriver=D, **right), MYFILE + "\n"
+    yield f"Deriver: {D}\n" in worked.run(f"ann info {MYFILE}"), True
     yield Worked().add(P, Q), "refused: 24 missing-reference\n"
-    told = Worked()
-    yield told.add(S, S) + told.run("ann gc"), f"{S}\n{S}\nfreed 1 paths 112 bytes\n"
-    yield told.add(S, S, ca=f"text:sha256:{ABC}"), "refused: 26 self-reference\n"
+    worked = Worked()
+    yield worked.add(S, S) + worked.run("ann gc"), f"{S}\n{S}\nfreed 1 paths 112 bytes\n"
+    yield worked.add(S, S, ca=f"text:sha256:{ABC}"), "refused: 26 self-reference\n"
 
 
 def with_derivation(config, root=False):
     """A store with a derivation and its output, which names it as its deriver."""
-    told = Worked(config)
-    told.add(D, archive=archives.file_archive(DERIVE))
-    told.add(O, deriver=D)
+    worked = Worked(config)
+    worked.add(D, archive=archives.file_archive(DERIVE))
+    worked.add(O, deriver=D)
     if root:
-        told.run(f"ann root r {O}")
-    return told
+        worked.run(f"ann root r {O}")
+    return worked
 
 
 def collections():
@@ -85,12 +85,12 @@ def collections():
     yield len(archives.file_archive(DERIVE)), 208
     yield with_derivation(keeps).run("ann gc"), f"{D}\n{O}\nfreed 2 paths 320 bytes\n"
     yield with_derivation(keeps, True).run("ann gc"), "freed 0 paths 0 bytes\n"
-    told = with_derivation(b"keep-outputs = true\nkeep-derivations = false\n", True)
-    yield told.run("ann report"), (
+    worked = with_derivation(b"keep-outputs = true\nkeep-derivations = false\n", True)
+    yield worked.run("ann report"), (
         "class       paths            bytes\nlive            1              112\n"
         "dead            1              208\ntotal           2              320\n"
     )
-    yield told.run("ann gc"), f"{D}\nfreed 1 paths 208 bytes\n"
+    yield worked.run("ann gc"), f"{D}\nfreed 1 paths 208 bytes\n"
     yield Worked().run("ann report"), (
         "class       paths            bytes\nlive            0                0\n"
         "dead            0                0\ntotal           0                0\n"
@@ -101,100 +101,100 @@ def collections():
 
 def triangle(config=b""):
     """A store in which two paths refer to a third."""
-    told = Worked(config)
+    worked = Worked(config)
     for base, *references in [P], [X, P], [Y, P]:
-        told.add(base, *references)
-    return told
+        worked.add(base, *references)
+    return worked
 
 
 def deletions():
-    told = triangle()
-    told.run("root runtime", f"root: /proc/1/exe {Y}\nroot: /proc/2/exe {X}\n\n".encode())
-    yield told.run(f"ann delete {P}"), f"denied: live {{censored}} {X}\n"
-    yield told.run(f"root delete {P}"), f"denied: live /proc/2/exe {X}\n"
-    told = Worked()
-    told.add(P), told.add(X), told.run(f"ann root r {X}")
-    yield told.run(f"ann delete {P} {X}"), f"denied: live gcroots/per-user/ann/r {X}\n"
-    yield told.run("ann list"), f"{P}\n{X}\n"
-    told = Worked()
-    told.add(P), told.add(X, P)
-    yield told.run(f"ann delete {P}"), f"{P}\n{X}\nfreed 2 paths 224 bytes\n"
-    yield told.run(f"ann delete {P}"), "refused: 23 not-valid\n"
-    yield told.ask(message("POST /delete")).endswith(b"freed 0 paths 0 bytes\n"), True
+    worked = triangle()
+    worked.run("root runtime", f"root: /proc/1/exe {Y}\nroot: /proc/2/exe {X}\n\n".encode())
+    yield worked.run(f"ann delete {P}"), f"denied: live {{censored}} {X}\n"
+    yield worked.run(f"root delete {P}"), f"denied: live /proc/2/exe {X}\n"
+    worked = Worked()
+    worked.add(P), worked.add(X), worked.run(f"ann root r {X}")
+    yield worked.run(f"ann delete {P} {X}"), f"denied: live gcroots/per-user/ann/r {X}\n"
+    yield worked.run("ann list"), f"{P}\n{X}\n"
+    worked = Worked()
+    worked.add(P), worked.add(X, P)
+    yield worked.run(f"ann delete {P}"), f"{P}\n{X}\nfreed 2 paths 224 bytes\n"
+    yield worked.run(f"ann delete {P}"), "refused: 23 not-valid\n"
+    yield worked.ask(message("POST /delete")).endswith(b"freed 0 paths 0 bytes\n"), True
 
 
 def runtime():
-    told = Worked()
-    told.add(P)
-    yield told.run("root runtime", f"root: a {P}\nroot: b {P}\n\n".encode()), "runtime roots 2\n"
+    worked = Worked()
+    worked.add(P)
+    yield worked.run("root runtime", f"root: a {P}\nroot: b {P}\n\n".encode()), "runtime roots 2\n"
     for command in "roots", f"why {P}":
-        yield told.run(f"ann {command}"), f"{{censored}} {P}\n"
-        yield told.run(f"root {command}"), f"a {P}\nb {P}\n"
-    yield told.run("root runtime", f"root: a {P}\nroot: a {P}\nroot: b {Q}\n\n".encode()), "runtime roots 1\n"
-    yield told.run("root runtime", f"root: {'a' * 257} {P}\n\n".encode()), "refused: 35 bad-label\n"
-    yield told.run("root roots"), f"a {P}\n"
+        yield worked.run(f"ann {command}"), f"{{censored}} {P}\n"
+        yield worked.run(f"root {command}"), f"a {P}\nb {P}\n"
+    yield worked.run("root runtime", f"root: a {P}\nroot: a {P}\nroot: b {Q}\n\n".encode()), "runtime roots 1\n"
+    yield worked.run("root runtime", f"root: {'a' * 257} {P}\n\n".encode()), "refused: 35 bad-label\n"
+    yield worked.run("root roots"), f"a {P}\n"
 
 
 def profiles():
-    told = Worked()
-    told.add(P), told.add(X)
-    profile = lambda words: told.run(f"ann profile {words}")
+    worked = Worked()
+    worked.add(P), worked.add(X)
+    profile = lambda words: worked.run(f"ann profile {words}")
     steps = [f"set w {P}", f"set w {X}", "rollback w", f"set w {X}"]
-    yield [profile(it) for it in steps], [f"generation {number}\n" for number in (1, 2, 1, 2)]
+    yield [profile(step) for step in steps], [f"generation {number}\n" for number in (1, 2, 1, 2)]
     yield profile("delete w 2"), "refused: 30 current-generation\n"
-    yield profile("delete w 1") + told.run("ann dead"), f"done\n{P}\n"
+    yield profile("delete w 1") + worked.run("ann dead"), f"done\n{P}\n"
     yield profile("rollback w") + profile("delete w 7"), "refused: 31 no-older-generation\nrefused: 29 no-generation\n"
     yield [profile("switch w 0"), profile("switch w 007")], ["refused: 29 no-generation\n"] * 2
-    told = triangle()
+    worked = triangle()
     steps = [f"set w {P}", f"set w {X}", f"set w {Y}", "rollback w", "delete w 3", f"set w {Y}"]
-    yield "".join(told.run(f"ann profile {it}")[-2:-1] for it in steps), "1232e3"
+    yield "".join(worked.run(f"ann profile {step}")[-2:-1] for step in steps), "1232e3"
     world = worlds.World()
     world.objects = {base: worlds.Object(EMPTY, frozenset(), None, None, []) for base in (P, X)}
     world.profiles["ann", "w"] = worlds.Profile({9999: P}, 9999)
-    told = Worked(rows=tables.rows_of(world, "/nix/store"))
-    yield told.run(f"ann profile set w {P}"), "generation 9999\n"
-    yield told.run(f"ann profile set w {X}"), "refused: 32 generation-limit\n"
+    worked = Worked(rows=tables.rows_of(world, "/nix/store"))
+    yield worked.run(f"ann profile set w {P}"), "generation 9999\n"
+    yield worked.run(f"ann profile set w {X}"), "refused: 32 generation-limit\n"
 
 
 def roots():
-    told = Worked()
-    told.add(P), told.run(f"bob root r {P}")
-    yield told.ask(message("POST /root/user/bob/r", f"path: {P}\n\n", "root")).endswith(b"denied: own-root\n"), True
-    yield [told.run("root unroot --owner bob r") for _ in range(2)], ["done\n", "refused: 27 no-root\n"]
-    yield told.run(f"root root --permanent r {P}") + told.run("root unroot --permanent r"), "done\ndone\n"
+    worked = Worked()
+    worked.add(P), worked.run(f"bob root r {P}")
+    yield worked.ask(message("POST /root/user/bob/r", f"path: {P}\n\n", "root")).endswith(b"denied: own-root\n"), True
+    yield [worked.run("root unroot --owner bob r") for _ in range(2)], ["done\n", "refused: 27 no-root\n"]
+    yield worked.run(f"root root --permanent r {P}") + worked.run("root unroot --permanent r"), "done\ndone\n"
     usage = ["unroot --permanent --owner bob r", "profile keep w", "profile set w", "delete"]
     usage += ["serve --connections 2", "gc --max-freed 007"]
-    yield [told.status(f"ann {it}") for it in usage], [2] * 6
+    yield [worked.status(f"ann {it}") for it in usage], [2] * 6
 
 
 def sessions():
-    told = Worked()
-    told.add(P), told.add(X, P)
-    told.run("root runtime", f"root: a {P}\nroot: a {X}\n\n".encode())
-    told.run(f"ann temp add 2 {P}"), told.run(f"ann temp add 2 {X}")
-    yield told.run("root roots"), f"a {P}\na {X}\n{{temp:2}} {P}\n{{temp:2}} {X}\n"
-    yield told.run("ann roots"), f"{{censored}} {P}\n{{censored}} {X}\n"
-    told = Worked()
-    told.add(P)
-    told.run(f"ann temp add 10 {P}"), told.run(f"ann temp add 2 {P}"), told.run(f"bob temp add 2 {P}")
-    yield told.run(f"root delete {P}"), f"denied: live {{temp:10}} {P}\n"
-    yield told.run("ann temp --owner bob end 2"), "denied: own-root\n"
-    yield [told.run(f"ann temp add {it} {P}") for it in ("0", "4194305")], ["refused: 42 bad-session\n"] * 2
-    yield told.run("ann temp end 10") + told.run("ann temp end 10"), "temporary roots 1\ntemporary roots 0\n"
-    yield told.run("root roots"), f"{{temp:2}} {P}\n"
-    yield told.run("ann temp end 2") + told.run("ann live"), f"temporary roots 1\n{P}\n"
-    yield told.run("root temp --owner bob end 2") + told.run("ann live"), "temporary roots 1\n"
+    worked = Worked()
+    worked.add(P), worked.add(X, P)
+    worked.run("root runtime", f"root: a {P}\nroot: a {X}\n\n".encode())
+    worked.run(f"ann temp add 2 {P}"), worked.run(f"ann temp add 2 {X}")
+    yield worked.run("root roots"), f"a {P}\na {X}\n{{temp:2}} {P}\n{{temp:2}} {X}\n"
+    yield worked.run("ann roots"), f"{{censored}} {P}\n{{censored}} {X}\n"
+    worked = Worked()
+    worked.add(P)
+    worked.run(f"ann temp add 10 {P}"), worked.run(f"ann temp add 2 {P}"), worked.run(f"bob temp add 2 {P}")
+    yield worked.run(f"root delete {P}"), f"denied: live {{temp:10}} {P}\n"
+    yield worked.run("ann temp --owner bob end 2"), "denied: own-root\n"
+    yield [worked.run(f"ann temp add {it} {P}") for it in ("0", "4194305")], ["refused: 42 bad-session\n"] * 2
+    yield worked.run("ann temp end 10") + worked.run("ann temp end 10"), "temporary roots 1\ntemporary roots 0\n"
+    yield worked.run("root roots"), f"{{temp:2}} {P}\n"
+    yield worked.run("ann temp end 2") + worked.run("ann live"), f"temporary roots 1\n{P}\n"
+    yield worked.run("root temp --owner bob end 2") + worked.run("ann live"), "temporary roots 1\n"
 
 
 def limits():
-    told = triangle()
-    yield told.run("ann gc --max-freed 0"), "freed 0 paths 0 bytes\n"
-    yield told.run("ann gc --max-freed 1"), f"{X}\nfreed 1 paths 112 bytes\n"
-    yield told.run("ann gc --max-freed 113"), f"{P}\n{Y}\nfreed 2 paths 224 bytes\n"
+    worked = triangle()
+    yield worked.run("ann gc --max-freed 0"), "freed 0 paths 0 bytes\n"
+    yield worked.run("ann gc --max-freed 1"), f"{X}\nfreed 1 paths 112 bytes\n"
+    yield worked.run("ann gc --max-freed 113"), f"{P}\n{Y}\nfreed 2 paths 224 bytes\n"
     world = worlds.World()
     world.objects = {base: worlds.Object(EMPTY, frozenset([other]), None, None, []) for base, other in ((A, B), (B, A))}
-    told = Worked(rows=tables.rows_of(world, "/nix/store"))
-    yield told.run("ann gc --max-freed 1"), f"{A}\n{B}\nfreed 2 paths 224 bytes\n"
+    worked = Worked(rows=tables.rows_of(world, "/nix/store"))
+    yield worked.run("ann gc --max-freed 1"), f"{A}\n{B}\nfreed 2 paths 224 bytes\n"
     yield triangle().run(f"ann gc --max-freed {2**64 - 1}"), triangle().run("ann gc")
 
 

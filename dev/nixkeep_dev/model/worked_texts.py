@@ -18,7 +18,7 @@ ABC = "1b8m03r63zqhnjf7l5wnldhh7c134ap5vpj0850ymkq1iyzicy5s"
 DERIVE = b'Derive([("out","/nix/store/11111111111111111111111111111111-o","","")],[],[],"p","b",[],[])'
 CONFIG = b'allowed-users = []\ntrusted-users = ["@wheel"]\n[groups]\nwheel = ["ann"]\n'
 NAMES = ["0-d.drv", "1-o", "0-p", "1-x", "2-y", "3-s", "4-q", "0-a", "1-b"]
-D, O, P, X, Y, S, Q, A, B = (it[0] * 31 + it for it in NAMES)
+D, O, P, X, Y, S, Q, A, B = (name[0] * 31 + name for name in NAMES)
 
 
 def refused(call: Callable, *arguments: Any) -> int:
@@ -55,7 +55,7 @@ def names():
         False, True, False, False, True, False,
     ]
     addresses = [f"text:sha256:{ABC}", "text:sha256:" + "1" * 52, "text:sha256:" + "2" + "0" * 51, f"sha256:{ABC}"]
-    yield [refused(texts.address_of, it) for it in addresses], [0, 0, 15, 15]
+    yield [refused(texts.address_of, address) for address in addresses], [0, 0, 15, 15]
 
 
 def paths():

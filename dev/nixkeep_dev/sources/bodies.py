@@ -51,14 +51,14 @@ def sources(crate: str, part: str = "src") -> dict[str, str]:
 def further(crate: str, folder: str = "further") -> list[Edit]:
     """The further edits of a crate, in the order of their names."""
     texts = sources(crate)
-    return [Edit(it, texts) for it in sorted(glob.glob(f"{program.HERE}/crates/{crate}/{folder}/*.edit"))]
+    return [Edit(path, texts) for path in sorted(glob.glob(f"{program.HERE}/crates/{crate}/{folder}/*.edit"))]
 
 
 def mistakes() -> list[tuple[str, list]]:
     """The mistakes of the table, each with pairs: of a crate and a name, or of what else notices it and its name."""
     lines = [it for it in Path(f"{program.HERE}/{MISTAKES}").read_text().splitlines() if it and not it.startswith("#")]
     return [(mistake, [tuple(it.split()) for it in by.split(", ")]) for mistake, _, by in
-            (it.rpartition(": ") for it in lines)]
+            (line.rpartition(": ") for line in lines)]
 
 
 @functools.cache
@@ -135,7 +135,7 @@ def equal_of_day(day: int) -> list[str]:
 def having(names: Iterable[str] = ()) -> list[str]:
     """The crates that have further edits; fails where one of these names isn't among them."""
     found = sorted({path.split("/")[-3] for path in glob.glob(f"{program.HERE}/crates/*/further/*.edit")})
-    if unknown := [it for it in names if it not in found]:
+    if unknown := [name for name in names if name not in found]:
         report.fail(f"no further edits in crates/: {' '.join(unknown)}")
     return found
 
@@ -144,7 +144,7 @@ def excused(file: str = EXCUSED) -> list[tuple]:
     """The edits that change nothing and that a check refuses nevertheless, or those that another file excuses: pairs of
     a crate and a name."""
     lines = Path(f"{program.HERE}/{file}").read_text().splitlines()
-    return [tuple(it.partition(":")[0].split()) for it in lines if it and not it.startswith("#")]
+    return [tuple(line.partition(":")[0].split()) for line in lines if line and not line.startswith("#")]
 
 
 def changes(path):
@@ -210,7 +210,7 @@ class Check:
         said, errors = self.said.get(function, ""), self.errors_of(function)
         if not self.is_not_proved(function):
             return False
-        if "did not prove" in said or any(is_of_meaning(it) for it in errors):
+        if "did not prove" in said or any(is_of_meaning(error) for error in errors):
             return True
         return None if self.others(function) else False
 
@@ -231,4 +231,4 @@ class Check:
 
 
 def is_of_meaning(error):
-    return not any(it in error for it in OF_NAMES) and not OF_NOTHING.search(error)
+    return not any(name in error for name in OF_NAMES) and not OF_NOTHING.search(error)

@@ -36,7 +36,7 @@ def fields(record: str) -> list[str]:
         match = re.search(whole, file.read_text("utf-8"), re.M | re.S)
         if match:
             names = re.findall(rf"^{match[1]}  (?:pub )?(\w+) :(.*)$", match[2], re.M)
-            below = [it for name, of in names if name == "frame" for it in fields(of.split()[0])]
+            below = [field for name, of in names if name == "frame" for field in fields(of.split()[0])]
             return [*below, *(name for name, _ in names if name != "frame")]
     return []
 

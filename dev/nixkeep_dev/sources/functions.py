@@ -60,7 +60,7 @@ def owner_of_type(match, module, texts):
     """Where a check has the methods of a type: in the module that declares it, or, of a type at some arguments, where
     the impl is."""
     parameters, name, arguments = match[1] or "", match[2], re.findall(r"[\w']+", match[3] or "")
-    given = [it for it in arguments if not re.search(rf"[<, ]{it}\b", parameters)]
+    given = [argument for argument in arguments if not re.search(rf"[<, ]{argument}\b", parameters)]
     if given:
         return module, "+".join([name, *given])
     declared = [file for file, text in texts.items()
@@ -78,7 +78,7 @@ def owner_in(line, lines):
     is_alone = len(others) < 2 and not {*parameters} & {*words} and "<" not in argument
     plain = lambda text: re.match(r"\w*", text.rpartition("::")[2])[0]
     # (io::Error is IoError there)
-    joined = "".join(it[:1].upper() + it[1:] for it in words if it not in parameters)
+    joined = "".join(word[:1].upper() + word[1:] for word in words if word not in parameters)
     return plain(of_type) + plain(trait) + ("" if is_alone else joined)
 
 
@@ -86,7 +86,7 @@ def is_in_type(lines, at):
     """Whether the function that begins in a line is a method of a type's own, or is in no impl or trait."""
     if not lines[at].startswith(" "):
         return True
-    around = next((it for it in reversed(lines[:at]) if re.match(r"[a-z#]", it)), "")
+    around = next((line for line in reversed(lines[:at]) if re.match(r"[a-z#]", line)), "")
     return OF_TYPE.match(around) is not None
 
 
@@ -129,7 +129,7 @@ def stated(texts: dict[str, str], kept: Iterable[str]) -> tuple[dict, list]:
         first, last = body
         made[file][first + 1 : last] = [f"{FUNCTION.match(lines[begin])[1]}    loop {{}}", *[None] * (last - first - 2)]
         changed.append(path)
-    return {file: "\n".join(it for it in lines if it is not None) for file, lines in made.items()}, changed
+    return {file: "\n".join(line for line in lines if line is not None) for file, lines in made.items()}, changed
 
 
 def functions(texts: dict[str, str]) -> Iterator[tuple[str, list[str], int, str]]:

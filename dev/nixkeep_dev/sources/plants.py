@@ -29,7 +29,7 @@ def listed() -> dict[str, list | None]:
 
 
 def write(by_crate: dict[str, list | None]) -> None:
-    comments = [it for it in Path(program.HERE, NAME).read_text().splitlines() if it.startswith("#")]
+    comments = [line for line in Path(program.HERE, NAME).read_text().splitlines() if line.startswith("#")]
     open_ones = [f"{it}: {NOT_RECORDED}" for it, rows in sorted(by_crate.items()) if rows is None]
     crates = [f"\n{it}:\n" + "".join(f"  {row}\n" for row in sorted(rows)) for it, rows in sorted(by_crate.items())
               if rows is not None]

@@ -29,7 +29,7 @@ def cell(calls):
         return f"`{calls[0]}`"
     # (it is of any texts, and they needn't be paths)
     prefix = os.path.commonprefix(calls).rpartition("::")[0] + "::"
-    return f"`{prefix}{{{', '.join(it.removeprefix(prefix) for it in calls)}}}`"
+    return f"`{prefix}{{{', '.join(call.removeprefix(prefix) for call in calls)}}}`"
 
 
 def clause_cell(asked, calls, known):
@@ -41,7 +41,7 @@ def clause_cell(asked, calls, known):
 
 
 def spelled(clauses):
-    return ", ".join(it if it == DASH else f"`{it}`" for it in clauses)
+    return ", ".join(clause if clause == DASH else f"`{clause}`" for clause in clauses)
 
 
 def section_made(crate, text, known):
@@ -60,7 +60,7 @@ def section_made(crate, text, known):
 
     made, more = ROW.sub(row, text), []
     for call, clauses in known.items():
-        if left := [it for it in clauses if it not in said.get(call, [])]:
+        if left := [clause for clause in clauses if clause not in said.get(call, [])]:
             more.append(f"| {cell([call])} | {spelled(left)} | {UNSAID} |\n")
     last = [it.end() for it in ROW.finditer(made)]
     at = last[-1] + 1 if last else len(made)

@@ -42,8 +42,8 @@ def of_case(text):
 def compared(text):
     """A block with what its commands print, as a script that prints the same."""
     for it in steps_of("".join(f"  {line}\n" for line in text.splitlines())):
-        told = re.sub("^> $", ">", "$ " + it.command.replace("\n", "\n> "), flags=re.M)
-        yield f"cat <<'SHOWN'\n{told}\nSHOWN\n{of_case(it.command)}\n"
+        shown = re.sub("^> $", ">", "$ " + it.command.replace("\n", "\n> "), flags=re.M)
+        yield f"cat <<'SHOWN'\n{shown}\nSHOWN\n{of_case(it.command)}\n"
 
 
 def output_of(scripts):

@@ -38,7 +38,7 @@ class Counts:
             self.seed = request.config.getoption("--seed")
 
     def pytest_collection_finish(self, session):
-        self.left = {it.nodeid for it in session.items}
+        self.left = {item.nodeid for item in session.items}
 
     def pytest_runtest_logreport(self, report):
         if report.when == "teardown":

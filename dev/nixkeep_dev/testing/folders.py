@@ -27,6 +27,6 @@ def tree(path: str) -> dict:
     if Path(path).is_symlink():
         return {"type": "symlink", "target": os.readlink(path)}
     if Path(path).is_dir():
-        return {"type": "directory", "entries": {it: tree(f"{path}/{it}") for it in os.listdir(path)}}
+        return {"type": "directory", "entries": {name: tree(f"{path}/{name}") for name in os.listdir(path)}}
     seen = os.stat(path)
     return {"type": "regular", "size": seen.st_size, "executable": bool(seen.st_mode & 0o100)}

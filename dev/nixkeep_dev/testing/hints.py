@@ -16,7 +16,7 @@ TOPS = ("dev/", "tools/", "examples/team/")
 
 def name_of(path: str) -> str:
     """The name by which a file is imported."""
-    below = next((path.removeprefix(it) for it in TOPS if path.startswith(it)), path)
+    below = next((path.removeprefix(top) for top in TOPS if path.startswith(top)), path)
     return below.removesuffix(".py").removesuffix("/__init__").replace("/", ".")
 
 
@@ -48,12 +48,12 @@ class Names:
         """The files of the modules that an import names, by their names in this one. It notes other names."""
         package = name_of(path).split(".")[:-node.level] if node.level else []
         origin, found = ".".join([*package, *([node.module] if node.module else [])]), {}
-        for it in node.names:
-            file = self.files.get(f"{origin}.{it.name}" if origin else it.name)
+        for name in node.names:
+            file = self.files.get(f"{origin}.{name.name}" if origin else name.name)
             if file:
-                found[it.asname or it.name] = file
+                found[name.asname or name.name] = file
             elif origin in self.files:
-                self.of_modules[self.files[origin], it.name].add(path)
+                self.of_modules[self.files[origin], name.name].add(path)
                 self.importers[self.files[origin]].add(path)
         return found
 

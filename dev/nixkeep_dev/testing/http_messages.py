@@ -24,8 +24,8 @@ def message(user: str, method: str, target: str, body: bytes | None = None) -> b
     return f"{method} {target} HTTP/1.1\r\nstore-user: {user}\r\n{length}\r\n".encode() + (body or b"")
 
 
-def messages(asked: Iterable[tuple]) -> bytes:
-    return b"".join(message(*it) for it in asked)
+def messages(requests: Iterable[tuple]) -> bytes:
+    return b"".join(message(*request) for request in requests)
 
 
 def lines(*pairs: tuple, payload: bytes = b"") -> bytes:
@@ -61,9 +61,9 @@ def next_replies(output: BufferedReader, count: int) -> list:
     return all_replies(written, count)
 
 
-def last_reply(connection: socket.socket, *asked: Any) -> bytes:
+def last_reply(connection: socket.socket, *request: Any) -> bytes:
     """Sends a message after which the server closes the connection: all that comes until then."""
-    connection.sendall(message(*asked).replace(b"\r\n\r\n", b"\r\nconnection: close\r\n\r\n", 1))
+    connection.sendall(message(*request).replace(b"\r\n\r\n", b"\r\nconnection: close\r\n\r\n", 1))
     return b"".join(iter(lambda: connection.recv(65_536), b""))
 
 

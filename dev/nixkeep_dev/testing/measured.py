@@ -25,7 +25,7 @@ def begin(place: str, folder: str) -> None:
 
     def send():
         found = lines.get_data()
-        said = json.dumps({it: found.lines(it) for it in found.measured_files()}).encode()
+        said = json.dumps({file: found.lines(file) for file in found.measured_files()}).encode()
         with contextlib.suppress(OSError), socket.socket(socket.AF_UNIX) as listening:
             listening.connect(place)
             listening.sendall(said)

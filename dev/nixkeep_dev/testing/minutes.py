@@ -61,7 +61,7 @@ class Minutes:
             file, colons, test = it.partition("::")
             rows.append((work, self.clock[it], examples, f"{Path(file).name}{colons}{test}"))
         rows.sort(reverse=True)
-        longest, others = [it for it in rows if it[0] >= LEAST], [it for it in rows if it[0] < LEAST]
+        longest, others = [row for row in rows if row[0] >= LEAST], [row for row in rows if row[0] < LEAST]
         if others:
             longest.append((*(sum(it[at] for it in others) for at in range(3)), f"{len(others)} others"))
         terminalreporter.section("seconds of processors, and of the clock; examples")

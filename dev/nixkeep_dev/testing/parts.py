@@ -60,17 +60,17 @@ CHECKS = ("checks", "documents", "generated", "started")
 
 def by_name() -> dict[str, dict]:
     """The scripts of each part by name."""
-    tools = [it.removeprefix("test_") for it in scripts("tools", "test_")]
+    tools = [script.removeprefix("test_") for script in scripts("tools", "test_")]
     return {
-        "compare": {it: file_of(f"compare/{it}") for it in scripts("compare")},
-        "faults": {it: file_of(f"faults/{it}") for it in scripts("faults")},
-        "tools": {it: file_of(f"tools/test_{it}") for it in tools},
+        "compare": {script: file_of(f"compare/{script}") for script in scripts("compare")},
+        "faults": {script: file_of(f"faults/{script}") for script in scripts("faults")},
+        "tools": {tool: file_of(f"tools/test_{tool}") for tool in tools},
         "team": {"try": file_of(TEAM), "try_large": file_of(f"{TEAM}_large"), "swift": file_of("tools/try_swift"),
-                 **{it: file_of(f"tools/test_{it}") for it in tools
-                    if it.startswith(("cache", "hostile", "logins", "overview", "units"))}},
+                 **{tool: file_of(f"tools/test_{tool}") for tool in tools
+                    if tool.startswith(("cache", "hostile", "logins", "overview", "units"))}},
         "package": {"clean_machine": file_of("package/clean_machine"), "files": file_of("tools/test_package"),
                     "scripts": file_of("tools/test_package_scripts")},
-        "gate": {it: file_of(f"gate/{it}") for it in scripts("gate") if it != "gate"},
+        "gate": {script: file_of(f"gate/{script}") for script in scripts("gate") if script != "gate"},
     }
 
 
@@ -99,7 +99,7 @@ def of_program(given: dict, is_whole: bool = False) -> list[Part]:
     no machine is booted for the units."""
     bounded, more = (BOUNDED, MORE) if is_whole else ({**BOUNDED, **SHORT}, {})
     by_kind = {"faults": "", "compare": "", "tools": "test_"}
-    found = [f"{folder}/{it}" for folder, start in by_kind.items() for it in scripts(folder, start)]
+    found = [f"{folder}/{script}" for folder, start in by_kind.items() for script in scripts(folder, start)]
     found = [*LONGEST, *[it for it in found if it not in LONGEST]]
     return [Part(it, given, [*bounded.get(it, []), *more.get(it, [])]) for it in found]
 

@@ -11,7 +11,7 @@ ANN, ROOT = ["--user", "ann"], ["--user", "root"]
 def archives():
     """An archive with each fault, by the line that refuses it."""
     empty, whole = ("directory", []), archive(b"abc")
-    deep, of_names = empty, lambda *names: of_node(("directory", [(it, empty) for it in names]))
+    deep, of_names = empty, lambda *names: of_node(("directory", [(name, empty) for name in names]))
     for _ in range(256):
         deep = "directory", [(b"a", deep)]
     return {

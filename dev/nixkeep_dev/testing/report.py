@@ -135,7 +135,7 @@ def parser(doc: str) -> argparse.ArgumentParser:
 
 def options(doc: str, more: Callable = lambda arguments: None, parts: Iterable[Callable] = ()) -> argparse.Namespace:
     """The words of the command line: which program is tried, more, and the parts to run, or all: functions."""
-    arguments, named = parser(doc), {it.__name__.removeprefix("try_"): it for it in parts}
+    arguments, named = parser(doc), {part.__name__.removeprefix("try_"): part for part in parts}
     arguments.add_argument("--program", metavar="FILE", help="the program; else the one that bin/nixkeep runs")
     more(arguments)
     if parts:

@@ -13,7 +13,7 @@ def path(it: str) -> bytes:
 
 def text(name: str, contents: bytes, *refs: str) -> bytes:
     """The body that adds a text, or with an archive in place of the contents a source."""
-    return lines(("name", name), *[("reference", it) for it in refs], payload=contents)
+    return lines(("name", name), *[("reference", ref) for ref in refs], payload=contents)
 
 
 def imported(it: str, nar: bytes, *more: tuple) -> tuple:

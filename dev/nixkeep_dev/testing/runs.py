@@ -34,7 +34,7 @@ def spent() -> float:
 
 def scripts(folder: str, start: str = "") -> list[str]:
     """The scripts of a folder of tests/, by name."""
-    return sorted(it.stem for it in Path(TESTS, folder).glob(f"{start}*.py"))
+    return sorted(path.stem for path in Path(TESTS, folder).glob(f"{start}*.py"))
 
 
 def file_of(name: str) -> str:
@@ -127,7 +127,7 @@ def run(words: list[str], is_shown: bool = True, each_second: Callable = lambda 
     threading.Thread(target=watch, daemon=True).start()
     for line in ran.stdout:
         counted = re.fullmatch(r"(\d+) passed, (\d+) failed(?:, (\d+) skipped)?\n", line)
-        counts = tuple(int(it or 0) for it in counted.groups()) if counted else counts
+        counts = tuple(int(group or 0) for group in counted.groups()) if counted else counts
         kept.append(line)
         if is_shown:
             print(line, end="", flush=True)
@@ -173,7 +173,7 @@ def not_allowed(ended: list[Ran]) -> int:
     """Prints what was skipped that the list of skips doesn't name, where a skip is a failure; how many there are."""
     lines = [line for it in ended for line in skips.faults(it, skips.allowed())]
     if lines:
-        report.tell(f"\nskipped, and {skips.NAME} doesn't name it:\n" + "\n".join(f"  {it}" for it in lines))
+        report.tell(f"\nskipped, and {skips.NAME} doesn't name it:\n" + "\n".join(f"  {line}" for line in lines))
     return len(lines)
 
 

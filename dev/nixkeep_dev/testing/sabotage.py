@@ -25,7 +25,7 @@ class Fault:
     """A planted fault: its name, what is changed, as pairs of a key and a text, and the part that has to notice it."""
 
     def __init__(self, name: str, lines: list[tuple[str, str]]):
-        self.name, self.changes = name, [it for it in lines if it[0] not in ("part", "excused")]
+        self.name, self.changes = name, [line for line in lines if line[0] not in ("part", "excused")]
         named = dict(lines)
         self.part, self.excused = shlex.split(named.get("part", "")), named.get("excused")
         if not self.part or not self.changes:
@@ -49,7 +49,7 @@ def table() -> list[Fault]:
             if name in found:
                 report.fail(f"{TABLE}: {name}: two faults of one name")
             found[name] = []
-    return [Fault(*it) for it in found.items()]
+    return [Fault(*item) for item in found.items()]
 
 
 def parts_of_table() -> set[tuple]:
@@ -62,13 +62,13 @@ def parts_of_table() -> set[tuple]:
 
 def costs() -> dict[tuple, float]:
     """The processor seconds of each part, as the file has them."""
-    lines = [it for it in Path(COSTS).read_text().splitlines() if not it.startswith("#")]
-    return {tuple(shlex.split(part)): float(seconds) for seconds, _, part in (it.partition(": ") for it in lines)}
+    lines = [line for line in Path(COSTS).read_text().splitlines() if not line.startswith("#")]
+    return {tuple(shlex.split(part)): float(seconds) for seconds, _, part in (line.partition(": ") for line in lines)}
 
 
 def write_costs(measured: dict[tuple, float]) -> None:
     """Writes the processor seconds of each part that the table has: those of these parts anew."""
-    kept, parts = [it for it in Path(COSTS).read_text().splitlines() if it.startswith("#")], parts_of_table()
+    kept, parts = [line for line in Path(COSTS).read_text().splitlines() if line.startswith("#")], parts_of_table()
     rows = sorted(((part, it) for part, it in {**costs(), **measured}.items() if part in parts), key=lambda it: -it[1])
     Path(COSTS).write_text("\n".join([*kept, *(f"{seconds:.1f}: {shlex.join(part)}" for part, seconds in rows), ""]))
 
@@ -185,8 +185,8 @@ def gone_of(fault: Fault, top: str) -> list[str]:
 def keep_first(count, path, top):
     """Leaves the comments of a file and the first of its other lines."""
     lines = Path(f"{top}/{path}").read_text().splitlines(keepends=True)
-    entries = [it for it in lines if not it.startswith("#")]
-    Path(f"{top}/{path}").write_text("".join([it for it in lines if it.startswith("#")] + entries[: int(count)]))
+    entries = [line for line in lines if not line.startswith("#")]
+    Path(f"{top}/{path}").write_text("".join([line for line in lines if line.startswith("#")] + entries[: int(count)]))
 
 
 # ---- the program

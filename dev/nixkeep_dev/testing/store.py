@@ -61,14 +61,14 @@ class Server:
         return self.ran.returncode, said
 
 
-def killed(file: str, path: str, asked: list[tuple], *options: str) -> list[tuple]:
+def killed(file: str, path: str, requests: list[tuple], *options: str) -> list[tuple]:
     """Asks a server over a file, and kills it once it has answered: so it doesn't copy its log into the file. Returns
     the replies."""
     words = [file, *options, "--db", path, "serve"]
     with subprocess.Popen(words, stdin=subprocess.PIPE, stdout=subprocess.PIPE) as ran:
-        ran.stdin.write(messages(asked))
+        ran.stdin.write(messages(requests))
         ran.stdin.flush()
-        found = next_replies(ran.stdout, len(asked))
+        found = next_replies(ran.stdout, len(requests))
         ran.kill()
     return found
 

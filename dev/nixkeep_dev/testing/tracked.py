@@ -11,7 +11,7 @@ from nixkeep_dev.build.program import HERE
 def git(*words: str) -> list[str]:
     """The lines that git prints."""
     ran = subprocess.run(["git", "-C", HERE, *words], capture_output=True, text=True, errors="replace")
-    return [it for it in ran.stdout.split("\n") if it]
+    return [line for line in ran.stdout.split("\n") if line]
 
 
 def tracked(*patterns: str) -> list[str]:

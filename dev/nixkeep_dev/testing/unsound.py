@@ -167,7 +167,7 @@ class Faulty:
 
     def of_tables(self) -> dict[str, str]:
         return {
-            "no rows at all": "".join(f"DELETE FROM {it};" for it in TABLES),
+            "no rows at all": "".join(f"DELETE FROM {table};" for table in TABLES),
             **{f"schema `{it}` with all tables": update("meta", f"val = '{it}'", "word = 'schema'")
                for it in ("1", "2")},
             **{f"a {table} without its table": f"DROP TABLE {table};" for table in TABLES},
