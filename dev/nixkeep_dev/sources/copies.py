@@ -21,7 +21,7 @@ def lanes() -> int:
 
 def copied(crate, folder):
     for part in ("src", "specs", "proofs"):
-        if os.path.isdir(f"{HERE}/crates/{crate}/{part}"):
+        if Path(f"{HERE}/crates/{crate}/{part}").is_dir():
             shutil.copytree(f"{HERE}/crates/{crate}/{part}", f"{folder}/{part}")
 
 

@@ -11,7 +11,7 @@ import textwrap
 from pathlib import Path
 
 from nixkeep_dev.testing import report
-from nixkeep_dev.testing.cases import CASES, PREPARES
+from nixkeep_dev.testing.cases import PREPARES
 
 OPTIONS = """usage: bin/run {name} [WORD OF PYTEST..] [--program FILE] [--seed N] [--count N]
 
@@ -77,8 +77,9 @@ class Counts:
 
 
 def are_cases(file: str) -> bool:
-    """Whether this is a page of cases, or the folder of all."""
-    return Path(CASES) in [Path(file).resolve(), Path(file).resolve().parent]
+    """Whether this is a page of cases, or the folder of all, here or in a copy of the repository."""
+    place = Path(file).resolve()
+    return (place.parent if place.suffix == ".txt" else place).parts[-2:] == ("tests", "cases")
 
 
 def has_tests(file: str) -> bool:

@@ -187,8 +187,8 @@ def main(run):
     sys.exit(1 if failed else 0)
 
 
-def script(doc: str, run: Callable, more: Callable = lambda arguments: None, parts: Iterable[Callable] = (),
-           need: Iterable[str] = (), skip: Iterable[str] = ()) -> None:
+def script(doc: str, run: Callable, more: Callable = lambda arguments: None, need: Iterable[str] = (),
+           skip: Iterable[str] = ()) -> None:
     """Runs a script with its words, and among these a folder of its own. It fails where a tool that it needs isn't
     installed, and is skipped without one of the others."""
 
@@ -198,7 +198,7 @@ def script(doc: str, run: Callable, more: Callable = lambda arguments: None, par
         more(arguments)
 
     def with_words():
-        words = options(doc, also, parts)
+        words = options(doc, also)
         needs(*need)
         if skips(*skip):
             return 0
