@@ -1,10 +1,14 @@
 """Measures which lines of the tools in Python their tests run.
 
 Runs the tests of the tools and of the deployment, with each Python process that they start measured by coverage
-(Debian: python3-coverage), and prints for each module the part of its lines that ran, the least first. The part of all
-lines may only rise: tests/gate/coverage.txt has the number, and --raise writes a higher one there. Tests that fail
-fail here too, after a second run, since a machine may be busy. No other command runs it, since it takes longer than all
-these tests without it. With NAMES, such as `words`, it runs these tests alone, and compares no number.
+(Debian: python3-coverage), and prints for each module the part of its lines that ran, the least first. Two kinds of
+numbers may only rise: the part of all lines that all tests run, and that which each of them runs alone.
+tests/gate/coverage.txt has these, and --raise writes higher ones there. Tests that fail fail here too, after a second
+run, since a machine may be busy. With NAMES, such as `words`, it runs these tests alone, and compares their numbers.
+
+With --today it runs an eighth of the tests, by --seed, which is the day, so eight days try all. They take longer where
+they are measured, so one that fails is skipped: it is a part of the gate itself. With --minutes none begins once these
+processor minutes are spent: the last lines say how many are left out, which counts as skipped.
 
 A process sends its lines to a socket (dev/nixkeep_dev/testing/measured.py), also where it ends by a signal, or has a
 full disk. What a process ran that a test kills isn't counted.
@@ -22,11 +26,11 @@ from collections.abc import Iterator
 from concurrent.futures import ThreadPoolExecutor
 from pathlib import Path
 
-from nixkeep_dev.testing import measured, parts, report, sabotage
+from nixkeep_dev.testing import days, measured, parts, report, sabotage
 from nixkeep_dev.testing.lowered import Raised
-from nixkeep_dev.testing.runs import command, options_of, scripts, spent
+from nixkeep_dev.testing.runs import command, file_of, options_of, scripts, spent
 
-NAME = "percent of the lines of tools"
+NAME, OF_ONE = "percent of the lines of tools", "percent that {} runs"
 # The first line of a tool that reads nothing of its environment.
 ALONE = "#!/usr/bin/python3 -ES\n"
 # Where Debian has it. A Python of the same version that isn't Debian's is measured by it, too.
@@ -82,27 +86,40 @@ def place_in(folder: str) -> str:
     return f"{folder}/lines"
 
 
-def tests_of(top, named):
-    """The tests of a copy that are measured: all, or those that are named."""
-    names = [f"{top}/tests/tools/{script}.py" for script in scripts("tools", "test_")
-             if script not in NO_TOOL and (not named or script.removeprefix("test_") in named)]
-    return names + [str(Path(f"{top}/tests/{parts.TEAM}").resolve())] * (not named or "try" in named)
+def measured_tests() -> list[str]:
+    """The names of the tests that are measured, those that take longest first."""
+    found = [f"tools/{it}" for it in scripts("tools", "test_") if it not in NO_TOOL]
+    return [parts.TEAM, *sorted(found, key=lambda it: parts.LONGEST.index(it) if it in parts.LONGEST else len(found))]
 
 
-def run_tests(names, given, environment, jobs):
-    """Runs tests side by side: what those print that fail twice."""
+def short(name: str) -> str:
+    """What a user calls a test."""
+    return Path(name).name.removeprefix("test_")
 
-    def one(name):
-        words = command([name, *options_of(name, given)])
+
+class Measured:
+    """A test of a copy: what it prints if it fails twice, and which lines of which files it ran."""
+
+    def __init__(self, name, folder, top, given):
+        file = str(Path(f"{top}/tests/{name}").resolve())
+        words = command([file if name == parts.TEAM else f"{file}.py", *options_of(file_of(name), given)])
+        self.name, self.fault, environment = short(name), None, prepare(folder, top)
         how = {"stdin": subprocess.DEVNULL, "stdout": subprocess.PIPE, "stderr": subprocess.STDOUT, "text": True}
-        for _ in range(2):
-            ran = subprocess.run(words, env=environment, errors="replace", **how)
-            if not ran.returncode:
-                return None
-        return f"{Path(name).name}:\n{ran.stdout[-1500:]}"
+        with listening(place_in(folder)) as lines:
+            for _ in range(2):
+                ran = subprocess.run(words, env=environment, errors="replace", **how)
+                self.fault = ran.returncode and f"{self.name}:\n{ran.stdout[-1500:]}"
+                if not self.fault:
+                    break
+        self.lines = lines.found
 
-    with ThreadPoolExecutor(jobs) as pool:
-        return [it for it in pool.map(one, names) if it]
+
+def union(found: list[Measured]) -> dict[str, set[int]]:
+    """The lines that any of these tests ran."""
+    made = collections.defaultdict(set)
+    for file, lines in (it for one in found for it in one.lines.items()):
+        made[file] |= lines
+    return made
 
 
 # Prints the report of coverage for the lines of files, which it reads.
@@ -116,45 +133,69 @@ def percents(lines: dict[str, set[int]], top: str) -> tuple[int, list[tuple[str,
     """The percent of the lines that ran, of all and of each module, the least first."""
     how = {"cwd": top, "stdout": subprocess.PIPE, "stderr": subprocess.STDOUT, "text": True}
     given = json.dumps({file: sorted(of_file) for file, of_file in lines.items()})
-    printed = subprocess.run(["/usr/bin/python3", "-c", REPORT], input=given, **how).stdout
-    rows = re.findall(r"^(\S+) +(\d+) +(\d+) +(\d+)%", printed, re.M)
+    told = subprocess.run(["/usr/bin/python3", "-c", REPORT], input=given, **how).stdout
+    rows = re.findall(r"^(\S+) +(\d+) +(\d+) +(\d+)%", told, re.M)
     if not rows:
-        report.fail(f"coverage measured nothing: {printed[-1000:]}")
+        report.fail(f"coverage measured nothing: {told[-1000:]}")
     found = {name: 100 * (1 - int(missed) / max(int(lines), 1)) for name, lines, missed, _ in rows}
     # (a whole number: some lines run only if something takes its time)
     return int(found.pop("TOTAL")), sorted(found.items(), key=lambda it: it[1])
 
 
 def more(parser):
-    parser.add_argument("--raise", action="store_true", dest="is_raised", help="write a higher number to coverage.txt")
+    parser.add_argument("--raise", action="store_true", dest="is_raised", help="write higher numbers to coverage.txt")
     parser.add_argument("--jobs", metavar="N", type=int, default=len(os.sched_getaffinity(0)), help="how many at once")
+    days.add_to(parser)
     parser.add_argument("names", nargs="*", metavar="NAME")
 
 
+def chosen(words):
+    """The tests to run."""
+    names = days.of_day(measured_tests(), words.seed) if words.today else measured_tests()
+    found = [it for it in names if not words.names or short(it) in words.names]
+    return found or report.fail("no test has this name")
+
+
+def judge(numbers, is_raised):
+    """Compares numbers with those that are kept, which may only rise: how many fell."""
+    kept, fell = Raised("coverage.txt"), 0
+    if unknown := [it for it in numbers if it not in kept.kept]:
+        report.fail(f"{kept.name} has no line `{unknown[0]}: 0`")
+    if is_raised:
+        kept.write(numbers)
+    for name, percent in numbers.items():
+        is_kept, lines = kept.check(name, percent)
+        fell += not is_kept
+        report.tell("\n".join([f"{name}: {percent} %", *lines]))
+    report.passes(len(numbers) - fell)
+    return fell
+
+
 def run(words):
-    file, kept = report.program_file(words), Raised("coverage.txt")
-    folder, top = f"{words.folder}/coverage", copied(f"{words.folder}/copy")
-    names = tests_of(top, words.names)
-    if not names:
-        report.fail("no test has this name")
-    environment = prepare(folder, top)
-    with listening(place_in(folder)) as lines:
-        failed = run_tests(names, {"program": file, "seed": words.seed}, environment, words.jobs)
-    report.passes(len(names) - len(failed))
+    given, bound = {"program": report.program_file(words), "seed": words.seed}, days.Bound(words.minutes)
+    top, names = copied(f"{words.folder}/copy"), chosen(words)
+
+    def one(name):
+        if not bound.leaves_out([name]):
+            return Measured(name, f"{words.folder}/{short(name)}", top, given)
+
+    with ThreadPoolExecutor(words.jobs) as pool:
+        found = [it for it in pool.map(one, names) if it]
+    good, failed = [it for it in found if not it.fault], [it.fault for it in found if it.fault]
+    report.passes(len(good))
     for text in failed:
-        report.failure(f"a test fails where it is measured: {text}")
-    report.tell(f"{spent() / 60:.1f} processor minutes")
-    percent, modules = percents(lines.found, top)
-    for name, part in modules:
-        report.tell(f"{part:5.1f} % of {name.removeprefix(top + '/')}")
-    if words.names:
-        return len(failed)
-    report.tell(f"{percent} % of the lines of the tools ran")
-    lower = [*kept.faults({NAME: percent}, words.is_raised)]
-    for line in lower:
-        report.failure(line)
-    report.passes(not lower)
-    return len(failed) + len(lower)
+        told = f"a test that fails where it is measured: {text}"
+        report.skip(told.partition("\n")[0]) if words.today else report.failure(told)
+    report.tell(f"{len(found)} of {len(measured_tests())} tests measured{days.said_of(words)}, in {spent() / 60:.1f}"
+                " processor minutes")
+    bound.tell("measured tests", len(found))
+    numbers = {OF_ONE.format(it.name): percents(it.lines, top)[0] for it in good}
+    if not words.today and found:
+        percent, modules = percents(union(found), top)
+        for name, part in modules:
+            report.tell(f"{part:5.1f} % of {name.removeprefix(top + '/')}")
+        numbers |= {} if words.names else {NAME: percent}
+    return judge(numbers, words.is_raised) + (0 if words.today else len(failed))
 
 
 if __name__ == "__main__":

@@ -5,7 +5,7 @@ after them wrong definitions, those of the mistakes that a store must not make, 
 tests/gate/tried.txt has with another sum, and those of the day; the bodies that `rt
 plant` makes of the day's crate; the program as `bin/nixkeep` builds it, and as Rattle's own compiler does; the cases,
 comparisons, the tests of the tools, a clean Debian with the package, and a part of each fault script, chosen by the
-day; and the planted faults of the day. At the end is a table of processor minutes: for each crate its proof, its tests
+day; the planted faults of the day; and which lines of the tools some tests run. At the end is a table of processor minutes: for each crate its proof, its tests
 (proved and run) and its edits; then one of the parts, with the minutes of the clock too. Both begin with what took
 most. It fails where a part does, and where all took more than MINUTES. The whole is what the system counts; what each
 crate took is seen by looking at the running processes, so the row `else` has what no look has caught. The last lines

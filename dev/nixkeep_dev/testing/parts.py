@@ -39,6 +39,7 @@ OF_GATE = {
     "gate/by_rattle": (False, ["--built"]),
     "gate/refused": (False, ["--built"]),
     "gate/plant": (False, ["--today", "--minutes", "6"]),
+    "gate/coverage": (True, ["--today", "--jobs", "1", "--minutes", "6"]),
     "faults/refuse_memory": (True, ["-k", "again"]),
 }
 # What is tried of a script that takes minutes, where five minutes are to be taken for all.
