@@ -164,9 +164,10 @@ def judge(numbers, is_raised):
     if is_raised:
         kept.write(numbers)
     for name, percent in numbers.items():
-        is_kept, lines = kept.check(name, percent)
-        fell += not is_kept
-        report.tell("\n".join([f"{name}: {percent} %", *lines]))
+        report.tell(f"{name}: {percent} %")
+        if percent < kept.kept[name]:
+            report.failure(f"{kept.name}: {name}: {percent:g}, and {kept.bound.format(kept.kept[name])}")
+            fell += 1
     report.passes(len(numbers) - fell)
     return fell
 

@@ -167,8 +167,8 @@ def run(words):
         refused = sum(pool.map(tried, together))
     report.passes(refused)
     number = len(found) - len(bound.left_out)
-    report.tell(f"{refused} of {number} edits refused, of {count}{days.said_of(words)}, in {spent() / 60:.1f} processor"
-                " minutes")
+    report.tell(f"{number} of {count} edits tried{days.said_of(words)}, and {refused} of them refused, in"
+                f" {spent() / 60:.1f} processor minutes")
     bound.tell("wrong definitions", number)
     return len(report.wrong)
 

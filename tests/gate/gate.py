@@ -2,15 +2,15 @@
 
 After `rt ci` it compares the bytes of the program with those of release/. Then come, side by side: wrong bodies, and
 after them wrong definitions, those of the mistakes that a store must not make, all wrong bodies of the crates that
-tests/gate/tried.txt has with another sum, and those of the day; the bodies that `rt
-plant` makes of the day's crate; the program as `bin/nixkeep` builds it, and as Rattle's own compiler does; the cases,
-comparisons, the tests of the tools, a clean Debian with the package, and a part of each fault script, chosen by the
-day; the planted faults of the day; and which lines of the tools some tests run. At the end is a table of processor minutes: for each crate its proof, its tests
-(proved and run) and its edits; then one of the parts, with the minutes of the clock too. Both begin with what took
-most. It fails where a part does, and where all took more than MINUTES. The whole is what the system counts; what each
-crate took is seen by looking at the running processes, so the row `else` has what no look has caught. The last lines
-are what was skipped, the comparison with the release, and `N passed, M failed`: those of `rt ci` and of each part and,
-where it is exceeded, the budget. The program stays, and bin/nixkeep runs it. bin/test calls this.
+tests/gate/tried.txt has with another sum, and those of the day; the bodies that `rt plant` makes of the day's crate;
+the program as `bin/nixkeep` builds it, and as Rattle's own compiler does; the cases, comparisons, the tests of the
+tools, a clean Debian with the package, and a part of each fault script, chosen by the day; the planted faults of the
+day; and which lines of the tools some tests run. At the end is a table of processor minutes: for each crate its proof,
+its tests (proved and run) and its edits; then one of the parts, with the minutes of the clock too. Both begin with what
+took most. It fails where a part does, and where all took more than MINUTES. The whole is what the system counts; what
+each crate took is seen by looking at the running processes, so the row `else` has what no look has caught. The last
+lines are what was skipped, the comparison with the release, and `N passed, M failed`: those of `rt ci` and of each part
+and, where it is exceeded, the budget. The program stays, and bin/nixkeep runs it. bin/test calls this.
 """
 import collections
 import os
@@ -132,6 +132,8 @@ def main():
     budget, since, watch = words.budget, time.monotonic(), Watch()
     clear_libraries()
     runs = [run(["rt", "ci"], each_second=watch.look, limit=PROOFS)]
+    # (its last line counts crates and edits, and not the tests that it runs)
+    runs[0].passed += sum(map(int, re.findall(r"^test result: \w+\. (\d+) passed;", runs[0].output, re.M)))
     before, found, cases = spent() / 60, watch.minutes(), 0
     is_same, compared = True, "not compared with release/: no program was built"
     if runs[0].is_good():

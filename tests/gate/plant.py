@@ -61,7 +61,8 @@ def judge(crate, said, known):
     else:
         wrong += [f"{crate}: accepted, and {plants.NAME} doesn't have it: {it}" for it in added]
     report.passes(said.counts["refused"] + len(rows & known))
-    report.tell(said.line)
+    tried = sum(it != "not-run" for it in said.kinds.values())
+    report.tell(f"{said.line}\n{tried:,} of {len(said.kinds):,} bodies tried")
     for line in wrong:
         report.failure(line)
     return len(wrong)

@@ -100,6 +100,11 @@ class Ran:
         said = re.findall(r"\b(?:seed|scenarios) (\d+)", self.output)
         return said[-1] if said else None
 
+    def part(self) -> str:
+        """What it tried of what there is, as it said; empty where it said nothing of that."""
+        said = re.findall(r"^([\d,]+ of [\d,]+ [a-z ]+?)(?: tried| measured|,|$)", self.output, re.M)
+        return said[-1] if said else ""
+
     def skips(self) -> list[str]:
         """What it said that it skipped, each once."""
         return [*dict.fromkeys(re.findall(r"^\s*skipped: (.*)$", self.output, re.M | re.I))]
@@ -151,12 +156,12 @@ def show(ran: Ran) -> None:
 
 def show_parts(ended):
     """A table of the runs, those first that took most of the processors, and the ends of those that failed. Numbers of
-    a run with a seed may differ with another one, as each day has."""
+    a run with a seed may differ with another one, as each day has. Some say what they tried of what there is."""
     columns = "".join(f"{it:>8}" for it in ("clock", "passed", "failed", "skipped"))
-    report.tell(f"\n{'minutes of parts':30}{'processor':>10}{columns}  seed")
+    report.tell(f"\n{'minutes of parts':30}{'processor':>10}{columns}  {'seed':6}  tried")
     for it in sorted(ended, key=lambda it: -it.work):
-        numbers = f"{it.minutes:8.1f}{it.passed:8}{it.failed:8}{it.skipped:8}  {it.seed() or ''}"
-        report.tell(f"{it.name:30}{it.work:10.1f}{numbers}".rstrip())
+        numbers = f"{it.minutes:8.1f}{it.passed:8}{it.failed:8}{it.skipped:8}  {it.seed() or '':6}"
+        report.tell(f"{it.name:30}{it.work:10.1f}{numbers}  {it.part()}".rstrip())
     for it in ended:
         if it.failed:
             report.tell(f"\n{it.name} failed, and ended so:\n" + "\n".join(it.output.splitlines()[-LAST:]))
