@@ -4,10 +4,10 @@
                                 repository, cases, comparisons and tests of the tools; of the faults, and of the cases
                                 over a server, a part that changes from day to day
   bin/test all                  what .ci/run does: the checks of the repository, the proofs of all crates that the
-                                toolchain hasn't kept, their tests and programs, a comparison of the program with the released one, and then
-                                all of the above on the program that was built, the wrong bodies and definitions of
-                                tests/gate/mistakes.txt, and by the day others of these, planted faults, and the wrong
-                                bodies that `rt plant` makes of a crate
+                                toolchain hasn't kept, their tests and programs, a comparison of the program with the
+                                released one, and then all of the above on the program that was built, the wrong bodies
+                                and definitions of tests/gate/mistakes.txt, and by the day others of these, planted
+                                faults, and the wrong bodies that `rt plant` makes of a crate
   bin/test cases [CASE..]       the cases: command lines and what they print
   bin/test compare [NAME..]     the program next to Nix, SQLite, curl, itself and a model of it
   bin/test faults [NAME..]      refused memory, failing streams, stops at each write, cut heads, hostile clients: all
