@@ -393,31 +393,50 @@ def test_paths_kept_in_turns(folder):
     assert exchanges[3] == kept, "another user who asks for many makes none forgotten"
 
 
-def test_paths_without_an_end_before_a_deletion(folder):
-    """Whoever asks for ever more paths meanwhile keeps the server busy for no longer than for a part of them, and those
-    of another user are kept first."""
-    exchanges = []
+def kept_before_a_collection(folder, asked_for):
+    """The exchanges with a server of which each first has `asked_for` called, with Sessions and the two users in it."""
+    exchanges, (ann, bob) = [], (cache_sessions.Caller(it, None) for it in ("ann", "bob"))
 
     class Server:
         async def asks(self, requests, first=lambda: ()):
-            ask_for_more()
+            asked_for(made, len(exchanges), ann)
             exchanges.append([(it.caller.user, it.target) for it in (*first(), *requests)])
             return exchanges[-1]
 
-    made, ann, bob = cache_sessions.Sessions(Server(), f"{folder}/more", 3600), *(
-        cache_sessions.Caller(it, None) for it in ("ann", "bob"))
-
-    def ask_for_more():
-        for at in range(200):
-            made.asked(ann, f"path{len(exchanges)}-{at}")
-
+    made = cache_sessions.Sessions(Server(), f"{folder}/more", 3600)
     for it in (ann, bob):
         made.asked(it, None)
-    ask_for_more()
+    asked_for(made, -1, ann)
     made.asked(bob, "bob's")
     asyncio.run(made.before(cache_sessions.Request(ann, "POST", "/collect")))
-    assert max(map(len, exchanges)) <= 101 and exchanges[-1][-1] == ("ann", "/collect")
-    assert ("bob", cache_sessions.target("bob")) in exchanges[0]
+    assert exchanges[-1][-1] == ("ann", "/collect") and max(map(len, exchanges)) <= 101
+    return exchanges
+
+
+def test_paths_without_an_end_before_a_deletion(folder):
+    """Whoever asks for ever more paths meanwhile keeps the server busy for no longer than for a part of them, and those
+    of another user are kept first."""
+
+    def asked_for(made, number, ann):
+        for at in range(200):
+            made.asked(ann, f"path{number}-{at}")
+
+    exchanges = kept_before_a_collection(folder, asked_for)
+    assert ("bob", cache_sessions.target("bob")) in exchanges[0] and len(exchanges) == 101
+
+
+def test_many_paths_right_before_a_deletion(folder):
+    """All are kept, though they come while the last ones wait for their turn."""
+    asked = []
+
+    def asked_for(made, number, ann):
+        for _ in range(150 if number == 0 else 0):
+            asked.append(f"path{len(asked)}")
+            made.asked(ann, asked[-1])
+
+    exchanges = kept_before_a_collection(folder, asked_for)
+    count = sum(it == ("ann", cache_sessions.target("ann")) for exchange in exchanges for it in exchange)
+    assert (count, len(asked)) == (300, 300)
 
 
 @contextlib.asynccontextmanager

@@ -17,6 +17,10 @@ def target(user: str) -> str:
     return f"/temp/{user}/{NUMBER}"
 
 
+class More(Exception):
+    """More is remembered than goes to the server at once."""
+
+
 class Sessions:
     """A user's session keeps what the user uploads, until nothing has come for `seconds`. A file with the user's name
     in a folder is as old as the last upload, so a session is ended also after a restart.
@@ -77,23 +81,28 @@ class Sessions:
 
     async def before(self, deletion: Request) -> Reply:
         """The reply to a deletion, before which sessions keep what is remembered. Others get their turns in between,
-        but for the last of it, which goes to the server with the deletion. That is a part at most: of whoever asks for
-        ever more paths meanwhile some aren't kept."""
-        for _ in range(MOST // TOGETHER):
-            keys = self.remembered()[:TOGETHER]
-            if len(keys) < TOGETHER:
-                break
-            await self.server.asks([self.keeping(*it) for it in keys])
-            self.kept(keys)
-        last = []
+        but for the last of it, which goes to the server with the deletion. That is a part at most. Of whoever asks for
+        ever more paths meanwhile some aren't kept: there are as many turns as paths that are remembered need."""
+        last, turns = [], MOST // TOGETHER
 
         def first():
-            last[:] = self.remembered()[:TOGETHER]
+            last[:] = self.remembered()
+            if turns and len(last) > TOGETHER:
+                raise More
+            del last[TOGETHER:]
             return [self.keeping(*it) for it in last]
 
-        answer = (await self.server.asks([deletion], first))[-1]
-        self.kept(last)
-        return answer
+        while True:
+            keys = self.remembered()[:TOGETHER]
+            if turns and len(keys) == TOGETHER:
+                await self.server.asks([self.keeping(*it) for it in keys])
+                self.kept(keys)
+            else:
+                with contextlib.suppress(More):
+                    answer = (await self.server.asks([deletion], first))[-1]
+                    self.kept(last)
+                    return answer
+            turns -= 1
 
     async def expire(self) -> None:
         """Ends the sessions of users from whom nothing has come for a while."""
