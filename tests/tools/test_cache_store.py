@@ -439,6 +439,28 @@ def test_many_paths_right_before_a_deletion(folder):
     assert (count, len(asked)) == (300, 300)
 
 
+@pytest.mark.parametrize("when", ["before its turn", "after its turn", "not at all"])
+def test_an_upload_at_the_end_of_a_session(when, folder):
+    """What comes while the end of the session waits for its turn is kept, and what comes later has a session."""
+    ended = []
+
+    class Server:
+        async def asks(self, requests, first):
+            if when == "before its turn":
+                made.touch("ann")
+            ended.extend([*first(), *(it.method for it in requests)])
+            if when == "after its turn":
+                made.touch("ann")
+            return [cache_server.Reply(200, "text/plain", b"")]
+
+    made = cache_sessions.Sessions(Server(), f"{folder}/ends", 3600)
+    made.touch("ann")
+    os.utime(made.file("ann"), (time.time() - 3601,) * 2)
+    asyncio.run(made.expire())
+    assert ended == ([] if when == "before its turn" else ["DELETE"])
+    assert os.path.exists(made.file("ann")) == (when != "not at all")
+
+
 @contextlib.asynccontextmanager
 async def serving(answer, place):
     """Serves requests by a function at a socket."""

@@ -1,6 +1,7 @@
 """Sessions of the store that keep what clients upload, so that no collection deletes the half of a closure."""
 import collections
 import contextlib
+import functools
 import os
 import time
 from collections.abc import Iterable
@@ -18,7 +19,7 @@ def target(user: str) -> str:
 
 
 class More(Exception):
-    """More is remembered than goes to the server at once."""
+    """More has come than goes to the server at once, or than what it was to end."""
 
 
 class Sessions:
@@ -107,12 +108,24 @@ class Sessions:
     async def expire(self) -> None:
         """Ends the sessions of users from whom nothing has come for a while."""
         for user in [it.removesuffix(".session") for it in os.listdir(self.folder) if it.endswith(".session")]:
-            if self.is_fresh(os.stat(self.file(user)).st_mtime):
+            if self.is_kept(user):
                 continue
-            with contextlib.suppress(Unreachable):
-                ended = await self.server.ask(Caller(user, None), "DELETE", target(user))
+            end = Request(Caller(user, None), "DELETE", target(user))
+            with contextlib.suppress(Unreachable, More):
+                # (an upload may come until its turn, and after it)
+                ended = (await self.server.asks([end], functools.partial(self.demand_end, user)))[-1]
                 # (a user that has left may not connect; that is tried again)
-                if ended.status == 200:
-                    os.unlink(self.file(user))
-                else:
+                if ended.status != 200:
                     self.touch(user)
+                elif not self.is_kept(user):
+                    os.unlink(self.file(user))
+
+    def is_kept(self, user):
+        """Whether something of a user has come a while ago at most."""
+        return self.is_fresh(os.stat(self.file(user)).st_mtime)
+
+    def demand_end(self, user: str) -> Iterable[Request]:
+        """Raises More if something of a user has come meanwhile. Nothing goes to the server before the end."""
+        if self.is_kept(user):
+            raise More
+        return ()
