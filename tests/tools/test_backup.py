@@ -809,6 +809,10 @@ def test_a_copy_before_a_migration(program, folder):
     assert copied() == (0, "", ""), "no file"
     path = of_schema_1(file)
     kept.write_text("of a start that was stopped")
+    opened = os.open(folder, os.O_RDONLY)
+    fcntl.flock(opened, fcntl.LOCK_EX)
+    fails_with("another copy is being made", copied())
+    os.close(opened)
     status, output, errors = copied()
     assert status == 0 and output.startswith(f"{kept}: 1 object, ") and not errors, errors
     assert kept.stat().st_mode & 0o777 == 0o600, "which its owner alone reads"

@@ -192,6 +192,13 @@ def before_migration(words: argparse.Namespace) -> str | None:
         return None
     if number is None or number >= max(store_file.LACKS):
         return None
+    # (else the copy that another start has begun would get the name of one that is tested)
+    with backup_folder.locked(os.path.dirname(os.path.abspath(words.db))):
+        return keep(words, number)
+
+
+def keep(words, number):
+    """Copies a file of this schema, tests the copy, and gives it its name. Returns the line that is printed."""
     kept, fresh = f"{words.db}-of-schema-{number}", f"{words.db}-of-schema-{number}.new"
     with contextlib.suppress(FileNotFoundError):
         os.unlink(fresh)
