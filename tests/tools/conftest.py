@@ -1,4 +1,5 @@
-"""What the tests of nixkeep-explain and nixkeep-cache are given."""
+"""What the tests of nixkeep-explain, nixkeep-cache and nixkeep-remote are given."""
+import tempfile
 from pathlib import Path
 
 import pytest
@@ -6,8 +7,10 @@ import pytest
 import parts
 from nixkeep_dev.testing.tables import ALL, put
 from nixkeep_dev.testing.unsound import Faulty
+from tests.tools import servers
 from tests.tools.cached import CONFIG
 from tests.tools.explained import Program
+from tests.tools.remote import Client
 
 
 @pytest.fixture
@@ -38,3 +41,16 @@ def unit(program, folder):
         return parts.Unit(program, folder, config, f"{folder}/store.db", f"{folder}/socket", *words)
 
     return made
+
+
+@pytest.fixture(scope="module")
+def port(program):
+    """The port of a server of a store with an object."""
+    with tempfile.TemporaryDirectory() as folder, servers.server(program, "--db", f"{folder}/store.db") as made:
+        assert Client(folder)(f"http://127.0.0.1:{made}", "--as", "ann", "add-text", "n", given=b"x")[0] == 0
+        yield made
+
+
+@pytest.fixture
+def client(folder):
+    return Client(folder)

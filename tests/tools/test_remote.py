@@ -1,13 +1,12 @@
-"""Tests nixkeep-remote: usage errors, an answer that comes late, proxies, streams, and the cases again with a server
-for each command.
+"""Tests nixkeep-remote: usage errors, an answer that comes late, forms of replies, streams, and the cases again with a
+server for each command.
 
 The cases run with a stand-in for the program that starts a server for each command and asks it by nixkeep-remote;
 remote_steps.txt has the steps that can't be done so, and why. `--count` is how many cases are tried. (`-k` with words,
-late, proxies, replies, streams or cases is a part of this.)
+late, replies, streams or cases is a part of this.)
 """
 import contextlib
 import os
-import pty
 import random
 import re
 import resource
@@ -24,18 +23,17 @@ import pytest
 
 from nixkeep_dev.build.program import HERE
 from nixkeep_dev.testing import cases, nar, report
-from nixkeep_tools import credentials, failures, http_client, http_connection, http_place, subcommands
-from tests.tools import replies, servers, shim, stand_in
+from nixkeep_tools import failures, http_client, http_connection, subcommands
+from tests.tools import replies, servers, stand_in
+from tests.tools.remote import ALLOWED, REMOTE, Client, certificate, fails, file_of
 from tests.tools.servers import ran
 
-REMOTE = f"{HERE}/tools/nixkeep-remote"
 STEPS = f"{HERE}/tests/tools/remote_steps.txt"
 # More than the cases have with the program: each command starts a server and a client.
 SECONDS = 1200
 MIB16 = 16_777_216
 # (of an archive each byte is printed as it comes)
 BASE = f"{'0' * 32}-x"
-ALLOWED = 0, b"class: allowed\nconnect: yes\n", b""
 
 # Words that are no command line, or ask for help; each with `|` between words.
 FAULTS = ["", *"""
@@ -109,103 +107,6 @@ def test_words_of_pages(page):
     assert [word for word in words if word not in text] == []
 
 
-def completed(command, *words, **more):
-    """The words that bash offers for the last of these."""
-    script = 'source "$1"; shift; COMP_WORDS=("$@"); COMP_CWORD=$(($# - 1)); "_${1//-/_}"; '
-    script += 'printf "%s\\n" "${COMPREPLY[@]}"'
-    _, output, errors = ran(["bash", "-c", script, "bash", f"{HERE}/completion/{command}.bash", command, *words],
-                            **more)
-    return sorted(output.decode("latin-1").split()) + errors.decode().splitlines()
-
-
-@pytest.mark.parametrize("words, offered", [
-    ("li", "list live"), ("--server http://127.0.0.1:1 --as ann pro", "profile"),
-    ("--server http : //h : 80 --as ann : users dea", "dead"), (f"--ca = {HERE}/HANDL", f"{HERE}/HANDLES"),
-    ("profile _", "--help --owner delete rollback set switch"), ("gc --", "--help --ignore-liveness --max-freed"),
-    ("help wh", "who why"), ("--server h", "http:// https://")])
-def test_words_of_completion(words, offered):
-    """`_` is an empty word."""
-    assert completed("nixkeep-remote", *words.replace("_", "").split(" ")) == offered.split()
-
-
-def test_words_of_completion_of_closures():
-    assert completed("nixkeep-closure", "--db", "f", "pu") == ["pull", "push"]
-    assert completed("nixkeep-closure", "push", "--p") == ["--permanent", "--profile"]
-
-
-def test_words_of_a_hostile_server_in_completion(folder):
-    """What a server lists is offered if it is a store path. Nothing of it is run, expanded or written to a terminal."""
-    path = f"/nix/store/{'0' * 32}-a+b-._?=c"
-    hostile = ["$(touch ran)", "`touch ran`", "${x:=$(touch ran)}", "$HOME", "~root", "a{b,c}", ";touch ran",
-               "'$(touch ran)'", "$[$(touch ran)]", "\\$(touch ran)", "<(touch ran)", "a b", "\r", "\x9b2J",
-               "\x1b]0;title\x07", "\x1b[2J"]
-    lines = [path, *hostile, *(f"/nix/store/{it}" for it in hostile), *(f"{path}{it}" for it in hostile), "-rf", "a"]
-    Path(folder, "lines").write_text("".join(f"{it}\n" for it in lines), encoding="latin-1")
-    file_of(folder, "nixkeep-remote", f"#!/bin/sh\ncat '{folder}/lines'\n", 0o755)
-    env = {**os.environ, "PATH": f"{folder}:{os.environ['PATH']}"}
-    for words in (["info", ""], ["why", "/"], ["root", "name", ""], ["profile", "set", "name", ""], ["delete", ""],
-                  ["temp", "add", "7", ""], ["add-text", "name", ""]):
-        offered = completed("nixkeep-remote", *words, env=env, cwd=folder)
-        assert [it for it in offered if it[:2] != "--"] == [path], words
-    assert sorted(os.listdir(folder)) == ["lines", "nixkeep-remote"], "nothing was run"
-
-
-FILE = "$(touch ran); &.db"
-
-
-def last_word(command, typed, folder):
-    """The last word that a command gets once bash has completed a line, and somebody has confirmed that."""
-    ours, theirs = pty.openpty()
-    bash = subprocess.Popen(["bash", "--norc", "--noprofile", "-i"], stdin=theirs, stdout=theirs, stderr=theirs,
-                            cwd=folder, env={**os.environ, "TERM": "dumb", "PS1": "ready> "}, start_new_session=True)
-    os.close(theirs)
-    begun = f"source '{HERE}/completion/{command}.bash'; {command}() {{ printf %s \"${{@: -1}}\" >../last; }}\n"
-    with contextlib.suppress(OSError):
-        for line in (begun, f"{typed}\t\n", "exit\n"):
-            shown = b""
-            while not shown.endswith(b"ready> "):
-                shown += os.read(ours, 4096)
-            os.write(ours, line.encode())
-        while os.read(ours, 4096):
-            pass
-    os.close(ours)
-    bash.wait()
-    return Path(f"{folder}/../last").read_text()
-
-
-@pytest.mark.parametrize("typed", [
-    "nixkeep --db ", "nixkeep-backup copy --db ", "nixkeep-backup restore red \\$", "nixkeep-cache --config ",
-    "nixkeep-closure --ca ", "nixkeep-closure push \\$", "nixkeep-closure copy --to \\$", "nixkeep-explain ",
-    "nixkeep-overview --db ", "nixkeep-remote --ca "])
-def test_names_of_files_in_completion(typed, folder):
-    """Nothing of the name of a file is run."""
-    os.mkdir(place := f"{folder}/files")
-    open(f"{place}/{FILE}", "x").close()
-    assert (last_word(typed.split()[0], typed, place), os.listdir(place)) == (FILE, [FILE])
-
-
-@pytest.mark.parametrize("typed", [
-    "nixkeep-backup copy --to ", "nixkeep-cache --blobs ", "nixkeep-remote --store-dir "])
-def test_names_of_folders_in_completion(typed, folder):
-    os.makedirs(f"{(place := f'{folder}/files')}/{FILE}")
-    assert (last_word(typed.split()[0], typed, place), os.listdir(place)) == (f"{FILE}/", [FILE])
-
-
-def test_places_in_completion(folder):
-    """Only names of files are quoted."""
-    os.mkdir(place := f"{folder}/files")
-    assert last_word("nixkeep-closure", "nixkeep-closure copy --to u", place) == "unix:/"
-    open(f"{place}/http:", "x").close()
-    assert completed("nixkeep-closure", "copy", "--to", "h", cwd=place) == ["http:", "http://", "https://"]
-
-
-@pytest.mark.parametrize("name", ["_nixkeep", "nixkeep.fish"])
-def test_words_of_other_shells(name):
-    """Their completion runs nothing: its words come from itself and from the names of users."""
-    text = Path(HERE, "completion", name).read_text()
-    assert re.findall(r"nixkeep-\w+|_call_program|(?<!\[)\$\([^(]|`[a-z-]+ ", text) == []
-
-
 def test_late_answers(monkeypatch):
     """An answer that is late isn't taken for that to the next request, which has a connection of its own."""
     texts, head = [b"first", b"second"], b"HTTP/1.1 200 OK\r\ncontent-type: text/plain\r\ncontent-length: 6\r\n\r\n"
@@ -229,203 +130,6 @@ def test_late_answers(monkeypatch):
         given_up.set()
         assert server.connection.sock is None
         assert server.ask("GET", "/second").text() == "second", "the next answer"
-
-
-# ---- proxies
-
-
-def certificate(folder):
-    """A certificate for 127.0.0.1 that signs itself, and its key."""
-    pair = f"{folder}/cert.pem", f"{folder}/key.pem"
-    words = "openssl req -x509 -newkey rsa:2048 -nodes -days 2 -subj /CN=127.0.0.1".split()
-    words += ["-addext", "subjectAltName=IP:127.0.0.1", "-out"]
-    subprocess.run([*words, pair[0], "-keyout", pair[1]], check=True, capture_output=True)
-    return pair
-
-
-class Client:
-    """nixkeep-remote with an environment of its own."""
-
-    def __init__(self, folder):
-        self.env = {key: value for key, value in os.environ.items() if not key.startswith("NIXKEEP_")}
-        self.env.update(HOME=folder, NO_PROXY="*")
-
-    def __call__(self, server, *words, given=b"", **env):
-        return ran([REMOTE, *(["--server", server] if server else []), *words], given, env={**self.env, **env})
-
-
-def file_of(folder, name, text, mode=0o600):
-    path = Path(folder, name)
-    path.write_text(text)
-    path.chmod(mode)
-    return str(path)
-
-
-def fails(came, pattern):
-    """A command failed with one line."""
-    status, output, errors = came
-    assert (status, output) == (1, b"")
-    assert re.fullmatch(pattern, errors.decode().rstrip("\n")) and errors.endswith(b"\n"), errors
-
-
-def trusted(folder, file):
-    """The variables by which OpenSSL's certificates of the system are in a file, or in a folder with links by hash."""
-    for name in ("empty", "trusted"):
-        Path(folder, name).mkdir()
-    words = ["openssl", "x509", "-noout", "-subject_hash", "-in", file]
-    os.symlink(file, f"{folder}/trusted/{subprocess.check_output(words, text=True).strip()}.0")
-    return {"file": {"SSL_CERT_FILE": file, "SSL_CERT_DIR": f"{folder}/empty"},
-            "folder": {"SSL_CERT_FILE": f"{folder}/empty/file", "SSL_CERT_DIR": f"{folder}/trusted"}}
-
-
-@pytest.fixture(scope="module")
-def port(program):
-    """The port of a server of a store with an object."""
-    with tempfile.TemporaryDirectory() as folder, servers.server(program, "--db", f"{folder}/store.db") as made:
-        assert Client(folder)(f"http://127.0.0.1:{made}", "--as", "ann", "add-text", "n", given=b"x")[0] == 0
-        yield made
-
-
-@pytest.fixture
-def client(folder):
-    return Client(folder)
-
-
-def test_proxies_netrc(folder, monkeypatch):
-    """The credentials that ~/.netrc has for a host go there by https, and never in the clear."""
-    user = lambda url: credentials.of_place(http_place.Place(url))
-    file_of(folder, ".netrc", "machine store.example login bob password b\n")
-    monkeypatch.setenv("HOME", folder)
-    monkeypatch.setenv(credentials.VARIABLE, "")
-    assert user("https://store.example").user == "bob"
-    assert user("http://store.example") is None
-
-
-@pytest.fixture
-def tls(port, folder):
-    """A proxy with TLS: its URL, and the file of its certificate."""
-    pair = certificate(folder)
-    users = {"ann": "secret:word", "bob": "b"}
-    with servers.proxy(port, certificate=pair, users=users, tokens={"t0ken": "carl"}, prefix="/team") as made:
-        yield servers.url(made, "https"), pair[0]
-
-
-needs_openssl = pytest.mark.needs("openssl")
-
-
-@needs_openssl
-def test_proxies_credentials(tls, client, folder):
-    at, ca = tls
-    fails(client(at, "list"), r"failed: certificate: https://\S+: self[- ]signed certificate")
-    fails(client(at, "--ca", ca, "list"), r"failed: proxy: \S+: 401 Unauthorized; it wants credentials")
-    for name, where in trusted(folder, ca).items():
-        came = client(at, "who", NIXKEEP_CREDENTIALS="bob:b", **where)
-        assert came == ALLOWED, f"a certificate that the system trusts, by a {name}"
-    named = file_of(folder, "credentials", "ann:secret:word\n")
-    own = ["--ca", ca, "--credentials", named]
-    path = client(at, *own, "add-text", "of-ann", given=b"x")[1].decode().strip()
-    assert path.endswith("-of-ann"), ("an add through the proxy", path)
-    assert client(at, *own, "root", "mine", path) == (0, b"done\n", b""), "a root of the user whom the credentials name"
-    assert client(f"{at}/team/", *own, "roots") == (0, f"gcroots/per-user/ann/mine {path}\n".encode(), b""), "it"
-    assert client(at, "--ca", ca, "who", NIXKEEP_CREDENTIALS="bob:b") == ALLOWED, "of the environment"
-    token = {"NIXKEEP_CREDENTIALS": "Bearer t0ken", "NIXKEEP_CA": ca, "NIXKEEP_SERVER": at}
-    assert client(None, "who", **token) == ALLOWED, "a token, and all else of the environment"
-    assert client(None, "--me", "carl", "profile", "set", "p", path, **token) == (0, b"generation 1\n", b""), (
-        "a name next to a token")
-    assert client(None, "--me", "ann", "profile", "set", "p", path, **token) == (4, b"", b"denied: own-root\n"), (
-        "another's name")
-
-
-@needs_openssl
-def test_proxies_credentials_that_are_refused(tls, client, folder):
-    at, ca = tls
-    named = file_of(folder, "credentials", "ann:secret:word\n")
-    own = ["--ca", ca, "--credentials", named]
-    path = client(at, *own, "add-text", "of-ann", given=b"x")[1].decode().strip()
-    fails(client(at, "--ca", ca, "list", NIXKEEP_CREDENTIALS="ann:no"),
-          r"failed: proxy: \S+: 401 Unauthorized; it doesn't accept the credentials of NIXKEEP_CREDENTIALS")
-    file_of(folder, ".netrc", "machine 127.0.0.1 login bob password b\n")
-    assert client(at, "--ca", ca, "root", "mine", path)[0] == 0, "credentials of ~/.netrc"
-    os.chmod(f"{folder}/.netrc", 0o644)
-    fails(client(at, "--ca", ca, "list"), r"failed: credentials: \S+/\.netrc: .*")
-    os.remove(f"{folder}/.netrc")
-    if os.geteuid() == 0:
-        os.chown(named, 4321, 4321)
-        fails(client(at, *own, "list"), r"failed: credentials: \S+: it belongs to another user")
-        os.chown(named, 0, 0)
-    os.chmod(named, 0o640)
-    fails(client(at, *own, "list"), r"failed: credentials: \S+: others may read it; run chmod 600 on it")
-    fails(client(at, "--ca", f"{folder}/none", "list"), r"failed: certificate: \S+/none: No such file or directory")
-
-
-def test_proxies_https_where_http_is_spoken(port, client):
-    with servers.proxy(port) as made:
-        at = servers.url(made).replace("http", "https")
-        fails(client(at, "list"), r"failed: unreachable: \S+: TLS: .*")
-
-
-def test_proxies_on_a_unix_socket(port, client, folder):
-    at = f"unix:{folder}/socket"
-    with servers.proxy(port, path=f"{folder}/socket"):
-        assert client(at, "who") == ALLOWED
-    fails(client(at, "who"), r"failed: unreachable: unix:\S+: Connection refused")
-    fails(client(f"unix:{folder}/none", "who"), r"failed: unreachable: unix:\S+: No such file or directory")
-
-
-def test_proxies_that_are_not_there(client):
-    fails(client(f"http://127.0.0.1:{shim.free_port()}", "list"),
-          r"failed: unreachable: http://127\.0\.0\.1:\d+: Connection refused")
-    fails(client("http://nobody.invalid", "list"), r"failed: unreachable: http://nobody\.invalid: .+")
-    fails(client(None, "list"), r"failed: server: none is named; .*")
-
-
-@pytest.mark.parametrize("server", ["ftp://a", "http:/a", "http://", "https://a?b", "unix:relative", "http://u:p@a",
-                                    "http://a:b", "a", "http://a:65536", "http://\xe9..a", "http://a/\xe9"])
-def test_proxies_that_are_no_server(server, client):
-    fails(client(server, "list"), r"failed: server: .* is meant")
-
-
-def test_proxies_and_passwords(client):
-    """None is repeated, or sent in the clear."""
-    fails(client("https://ann:secret@a", "list"), r"failed: server: https://a: .* is meant")
-    fails(client("http://192.0.2.1", "list", NIXKEEP_CREDENTIALS="a:b"),
-          r"failed: credentials: http://192\.0\.2\.1: .* use https")
-    fails(client("unix:/none", "list", NIXKEEP_CREDENTIALS="ann"), r"failed: credentials: NIXKEEP_CREDENTIALS: .*")
-
-
-TOO_LARGE = r"; it takes no body of \d+ bytes, and has to take 20971520"
-# Pages of a proxy, and why each is none of the server.
-PAGES = {
-    "502 Bad Gateway": ((502, b"<html>"), "; the server behind it doesn't answer"),
-    "413 Request Entity Too Large": ((413, b"<html>"), TOO_LARGE),
-    "403 Forbidden": ((403, b"denied by the proxy\n"), ""),
-    "404 Not Found": ((404, b"<html>nothing</html>"), ""),
-    "302 Found": ((302, b"", "text/html"), "; it points to nowhere"),
-    "200 OK": ((200, b"<html>log in</html>"), "; a reply of type text/html isn't nixkeep's"),
-    "500 Internal Server Error": ((500, b"oh"), ""),
-    "429 Too Many Requests": ((429, b"<html>"), "; it takes no more requests for now: try again"),
-    "503 Service Unavailable": ((503, b"busy"), "; the server behind it doesn't answer"),
-}
-
-
-@pytest.mark.parametrize("name", PAGES)
-def test_proxies_that_answer_themselves(name, port, client):
-    page, why = PAGES[name]
-    with servers.proxy(port, page=page) as made:
-        fails(client(servers.url(made), "add-text", "n", given=b"x"), rf"failed: proxy: http://\S+: {name}{why}")
-
-
-def test_proxies_that_pass_nothing_on(port, client):
-    with servers.proxy(shim.free_port()) as made:
-        fails(client(servers.url(made), "list"),
-              r"failed: proxy: \S+: 502 Bad Gateway; the server behind it doesn't answer")
-    with servers.proxy(port, most=1_000_000) as made:
-        came = client(servers.url(made), "add-text", "n", given=bytes(8_000_000))
-        fails(came, rf"failed: proxy: \S+: 413 .*{TOO_LARGE}")
-    with servers.proxy(port, cut=20) as made:
-        status, output, errors = client(servers.url(made), "list")
-        assert (status, len(output)) == (1, 20)
-        assert re.fullmatch(rb"failed: unreachable: .* before the end of the answer\n", errors), errors
 
 
 # ---- replies
@@ -456,7 +160,7 @@ def answered(pool):
 
 
 TABLE = {**replies.TABLE, **replies.OF_PORTS}
-ROWS = [pytest.param(kind, what, marks=[needs_openssl] if kind == "TLS" else [])
+ROWS = [pytest.param(kind, what, marks=[pytest.mark.needs("openssl")] if kind == "TLS" else [])
         for kind in ("a port", "a Unix socket", "TLS") for what in (TABLE if kind == "a port" else replies.TABLE)]
 
 
