@@ -170,7 +170,8 @@ def show(tried, seconds):
 def more(parser):
     parser.add_argument("--gate", action="store_true", help=f"those that {bodies.MISTAKES} names")
     days.add_to(parser, bodies.DAYS)
-    parser.add_argument("--changed", action="store_true", help=f"those of crates that differ from {recorded.NAME}")
+    parser.add_argument("--changed", action="store_true", dest="with_changed",
+                        help=f"those of crates that differ from {recorded.NAME}")
     parser.add_argument("--record", action="store_true", help=f"write the sums of these crates to {recorded.NAME}")
     parser.add_argument("names", nargs="*", metavar="NAME")
 
@@ -178,12 +179,12 @@ def more(parser):
 def run(words):
     named, names, done = program.listed(), words.names or bodies.having(words.names), []
     always, chosen = {*bodies.always()} if words.gate else set(), None
-    is_part, changed = words.gate or words.today or words.changed, []
+    is_part, changed = words.gate or words.today or words.with_changed, []
     with_equal, bound = [] if is_part else bodies.having_equal(), days.Bound(words.minutes)
     if is_part and words.record:
         report.fail("what tries a part records nothing")
     if is_part:
-        changed = recorded.changed_crates(names, named) if words.changed else []
+        changed = recorded.changed_crates(names, named) if words.with_changed else []
         chosen = always | {*(bodies.others_of_day(words.seed) if words.today else ())}
         chosen |= {(crate, it.name) for crate, it in bodies.every(True) if crate in changed}
     if words.today:
@@ -209,7 +210,7 @@ def run(words):
         what = f"{len(empty)} wrong bodies of the day, refused for what they leave out: {', '.join(empty)}"
         report.skip(what, len(empty))
     bound.tell("wrong bodies", count)
-    if words.changed:
+    if words.with_changed:
         report.tell(f"changed since {recorded.NAME} got their sums: {' '.join(changed) or 'none of its crates'}")
     if words.record:
         recorded.record([it.crate for it in done if not it.wrong], named)

@@ -19,7 +19,6 @@ import time
 import types
 from pathlib import Path
 
-import parts
 import pytest
 
 from nixkeep_dev.build.program import HERE
