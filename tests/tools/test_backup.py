@@ -22,6 +22,7 @@ from pathlib import Path
 import pytest
 
 from nixkeep_dev.build.program import HERE
+from nixkeep_dev.testing import stores
 from nixkeep_dev.testing.store import killed
 from nixkeep_tools import as_owner, backup_check, backup_file, backup_folder, backup_restore, http_client, objects
 from nixkeep_tools import store_file, store_size
@@ -797,8 +798,8 @@ def test_a_restore_of_what_a_service_has_left(names, store, restored):
 def of_schema_1(file):
     """A file of schema 1 with a text, whose path this is."""
     with contextlib.closing(sqlite3.connect(file)) as conn, conn:
-        parts.put_tables(conn, 1)
-        return parts.put_text(conn, "old", b"old")
+        stores.put_tables(conn, 1)
+        return stores.put_text(conn, "old", b"old")
 
 
 def test_a_copy_before_a_migration(program, folder):

@@ -19,7 +19,7 @@ import pytest
 
 pytest.importorskip("aiohttp", reason="needs python3-aiohttp (Debian: python3-aiohttp)")
 import parts
-from nixkeep_dev.testing import nar
+from nixkeep_dev.testing import nar, stores
 from nixkeep_tools import cache_blobs, cache_http, cache_overview, cache_records, cache_shares, cache_waiting
 from parts import body, some_path
 from tests.tools import cached, large
@@ -217,8 +217,8 @@ def asked(team, *targets):
 def test_a_long_record_of_a_large_archive(rng, team_of, folder):
     """It has what the pointer names, and whoever asks next on its connection gets a reply of their own."""
     with contextlib.closing(sqlite3.connect(f"{folder}/store.db")) as conn, conn:
-        parts.put_tables(conn, 3)
-        named = [parts.put_text(conn, f"{at:03}{'n' * 200}", b"x") for at in range(280)]
+        stores.put_tables(conn, 3)
+        named = [stores.put_text(conn, f"{at:03}{'n' * 200}", b"x") for at in range(280)]
     with team_of() as team:
         archive, path = archive_of(rng), some_path(rng, "wide")
         lines = [("path", path), ("nar-hash", nar.nar_hash(archive)), *(("reference", it) for it in named)]

@@ -7,7 +7,7 @@ import os
 import re
 import stat
 import time
-from collections.abc import Callable, Iterable
+from collections.abc import Callable, Iterable, Iterator
 
 from . import store_file
 from .failures import Stop, reason
@@ -55,7 +55,7 @@ def sync(path: str) -> None:
 
 
 @contextlib.contextmanager
-def locked(folder):
+def locked(folder: str) -> Iterator[None]:
     """One copy at a time is made in a folder."""
     try:
         opened = os.open(folder, os.O_RDONLY | os.O_DIRECTORY)
