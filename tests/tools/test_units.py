@@ -453,21 +453,6 @@ def test_a_restore(machine):
 
 
 @on_a_machine
-def test_restores_and_a_copy_at_once(machine):
-    """One restore is done, the other refused, and a copy is cancelled or done before. At the end all run."""
-    copy = f"/var/lib/nixkeep-backup/red/{machine.output('ls /var/lib/nixkeep-backup/red').split()[0]}"
-    restore = f"nixkeep-backup restore red {copy}"
-    for wait in (0, 0.5, 1):
-        copied = "systemctl reset-failed nixkeep-backup@red; systemctl start --wait nixkeep-backup@red"
-        said = machine.output(f"({copied}) >/dev/null 2>&1 & sleep {wait}; {restore} & {restore}; wait")
-        machine("timeout 100 sh -c 'until systemctl is-active --quiet nixkeep@red; do sleep 0.3; done'")
-        done, refused = sorted(said.splitlines(), key=lambda it: "another restore is running" in it)
-        assert done.startswith("restored ") and "another restore is running" in refused, said
-        assert states(machine) == ["active"] * 3, (wait, said)
-        assert "-restarted-" in machine.output(f"{AS_ANN}/paths"), wait
-
-
-@on_a_machine
 def test_an_upgrade(machine):
     main = "systemctl show -p MainPID --value nixkeep@red"
     before = machine.output(main)
