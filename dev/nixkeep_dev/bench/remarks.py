@@ -33,7 +33,7 @@ REMARKS = [
     Remark(r"counts: memory of .*", "memory for objects with a deriver or an address",
            """Such an object has 104 bytes more. The links that a server keeps turned round take 46 bytes for an object,
            63 for a list of what refers to it, and 63 for one of what it has made. Without them all limits are met."""),
-    Remark(r"nix: .*by nixkeep-remote over a server: .*", "actions by `nixkeep-remote`",
+    Remark(r"nix: .*by nixkeep-remote(?: over a server)?: .*", "actions by `nixkeep-remote`",
            """Most of the time is the start of python3, and the rest its loading of modules. The server takes less than
            a millisecond for most requests. To start curl for them would come in addition."""),
     Remark(r"nix: .* over https: .*", "a query by `nixkeep-remote` over https",
