@@ -405,7 +405,9 @@ def test_a_damaged_log(nixkeep, folder, rng, many, logged):
         count_in = f"sound: {listed.count(chr(10))} object" if "no store yet" not in output else "no store yet"
         assert count_in in output, listed
         if 32 <= at and "no store yet" not in output:
-            assert by_itself(other) == log_said, f"after a command has read it: {output}"
+            # (a command gives the first frame that doesn't count another salt: of one alone nothing is said any more)
+            left = (0, 0) if log_said[0] == 1 else log_said
+            assert by_itself(other) == left, f"after a command has read it: {output}"
 
 
 def test_a_damaged_page_of_each_frame(folder, logged):
