@@ -9,7 +9,7 @@ use sha2::{Digest, Sha256};
 use std::alloc::Global;
 use std::collections::BTreeSet;
 use std::test::Fail;
-use tables::{Alter, Failed, Pieces, RootName, Summary, Tables};
+use tables::{Alter, Details, Failed, Outputs, Pieces, RootName, Summary, Tables};
 
 /// No runtime root is left.
 fn forget_runtime<S: Alter>(alloc: Global, tables: &mut Tables<S>) -> Result<(), Failed> {
@@ -191,16 +191,16 @@ fn add_file<S: Alter>(
     drop(read(alloc, &archive)?);
     let size = archive.len();
     let hash = Sha256::digest(&archive);
-    let object = Summary::new(
-        alloc,
-        size,
-        hash,
-        Vec::new(alloc),
-        None,
-        None,
-        Vec::new(alloc),
-        Vec::new(alloc),
-    )?;
+    let outputs = Outputs {
+        names: Vec::new(alloc),
+        paths: Vec::new(alloc),
+    };
+    let details = Details {
+        deriver: None,
+        ca: None,
+        outputs,
+    };
+    let object = Summary::new(alloc, size, hash, Vec::new(alloc), details)?;
     let mut nar = Pieces::new(alloc);
     nar.append(archive)?;
     tables.insert_object(path, &nar, object)?;

@@ -10,7 +10,7 @@ use paths::{Ca, StorePath};
 use std::alloc::{AllocError, Global};
 use std::collections::BTreeMap;
 use streams::Pieces;
-use tables_outline::{Outputs, Summary};
+use tables_outline::{Details, Outputs, Summary};
 
 /// An object to add: its path, its archive, and the summary of its other facts.
 #[derive(Drop)]
@@ -58,7 +58,12 @@ pub(crate) fn summary(
         ca,
         outputs,
     } = recorded;
-    let Outputs { names, paths } = Outputs::of_map(alloc, outputs)?;
-    let object = Summary::new(alloc, size, hash, in_order(refs), deriver, ca, names, paths)?;
+    let outputs = Outputs::of_map(alloc, outputs)?;
+    let details = Details {
+        deriver,
+        ca,
+        outputs,
+    };
+    let object = Summary::new(alloc, size, hash, in_order(refs), details)?;
     Ok(object)
 }

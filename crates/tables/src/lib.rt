@@ -21,7 +21,7 @@ pub use unopened::{Cause, Unadopted, Unopened};
 pub use paths::{Root, RootKind};
 pub use sqlite::{Alter, Connection, FileFrom, FileStore, MemStore, Start, Unknown};
 pub use streams::Pieces;
-pub use tables_outline::{Outline, Profile, Summary};
+pub use tables_outline::{Details, Outline, Outputs, Profile, Summary};
 pub use tables_recognize::Disk;
 pub use tables_recognize::file::{Unfound, UnopenedFile, Unreadable};
 pub use tables_sql::failure::Failed;

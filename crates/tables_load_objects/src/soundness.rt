@@ -24,7 +24,7 @@ use crate::texts::{address_of, deriver_of, path_of};
 use paths::{Ca, StoreDir, StorePath};
 use std::alloc::{AllocError, Global};
 use streams::MAX_REFERENCES;
-use tables_outline::{Outputs, Summary};
+use tables_outline::{Details, Outputs, Summary};
 use tables_rows::objects::Object;
 use tables_rows::outputs::Output;
 use tables_rows::references::Reference;
@@ -70,18 +70,13 @@ fn summary_of(
           outputs = finite.from_entries (zip (map string_bytes outputs.names.items) outputs.paths.items);
         }) }
 {
-    let Outputs { names, paths } = outputs;
     let size = archive.arrived.pieces.len();
-    Summary::new(
-        alloc,
-        size,
-        archive.digest(),
-        refs,
+    let details = Details {
         deriver,
         ca,
-        names,
-        paths,
-    )
+        outputs,
+    };
+    Summary::new(alloc, size, archive.digest(), refs, details)
 }
 
 /// What the rows of an object state: the digest of its archive, its references, its deriver and its address.

@@ -5,9 +5,9 @@ use Rattle.std.specs.FinMap as finite
 use Rattle.tables_sql.specs.Contents.{Contents, Triple, SessionPath}
 use Rattle.paths.specs.Names.{is_plain_name}
 use Rattle.paths.specs.StorePath.{is_base_name}
-use Rattle.paths.specs.Root.{bytes_cmp, is_runtime_label, is_session}
+use Rattle.paths.specs.Root.{bytes_cmp, is_runtime_label}
 use Rattle.model.specs.World.{Path, Pair, pair_cmp, Profile}
-use Rattle.paths.specs.Decimal.{max_generation}
+use Rattle.paths.specs.Decimal.{max_generation, max_session}
 use Rattle.tables_world.specs.Rows.{Rows, number_in}
 use Rattle.tables_world.specs.Parts.{IsSoundSession, AreSoundRoots}
 use Rattle.tables_world.specs.Worlds.{world_in}
@@ -51,23 +51,28 @@ is_user_root objects e = is_plain_name e.0.0 && (is_plain_name e.0.1 && is_targe
 abbrev pub is_runtime_root : Objects → Pair × Unit {0} → Bool
 is_runtime_root objects e = is_runtime_label e.0.0 && is_target objects e.0.1
 
--- ---- sessions
+-- ---- numbers
+
+-- a number of 1 up to the greatest
+abbrev pub is_up_to : ℕ → ℤ → Bool
+is_up_to most (pos n) = nat_le 1 n && nat_le n most
+is_up_to most (negsuc n) = false
 
 -- a number of a session: 1 to 4,194,304
 abbrev pub is_session_number : ℤ → Bool
-is_session_number (pos n) = is_session n
-is_session_number (negsuc n) = false
+is_session_number = is_up_to max_session
+
+-- a number of a generation: 1 to 9,999
+abbrev pub is_number : ℤ → Bool
+is_number = is_up_to max_generation
+
+-- ---- sessions
 
 -- what a session keeps: its owner has a plain name, its number is one of a session, and the path is an object's
 abbrev pub is_temporary_root : Objects → SessionPath × Unit {0} → Bool
 is_temporary_root objects e = is_plain_name e.0.0 && (is_session_number e.0.1 && is_target objects e.0.2)
 
 -- ---- profiles
-
--- a number of a generation: 1 to 9,999
-abbrev pub is_number : ℤ → Bool
-is_number (pos n) = nat_le 1 n && nat_le n max_generation
-is_number (negsuc n) = false
 
 -- a profile has an owner and a name, both plain, and its current number is one of a generation
 abbrev pub is_profile : Pair × ℤ → Bool

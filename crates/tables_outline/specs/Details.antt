@@ -19,7 +19,12 @@ no_details = record { deriver = None; ca = None; names = []; outputs = [] }
 -- details in memory
 abbrev pub details_view : Details → DetailsValue
 details_view d =
-    record { deriver = d.deriver; ca = d.ca; names = map string_bytes d.names.items; outputs = d.outputs.items }
+    record {
+      deriver = d.deriver;
+      ca = d.ca;
+      names = map string_bytes d.outputs.names.items;
+      outputs = d.outputs.paths.items;
+    }
 
 -- details in a box, where an object that has none has no box
 abbrev pub details_of : Option (Box Details Global) → DetailsValue

@@ -3,16 +3,19 @@
 ghost use Rattle.std.specs.Prelude.{◌≡◌, IfOk};
 ghost use Rattle.tables_outline.specs.Details.{details_of, details_view};
 
+use crate::outputs::Outputs;
 use paths::{Ca, StorePath};
 use std::alloc::{AllocError, Global};
 
-/// The deriver, the content address and the outputs of an object, each output's path at the place of its name.
+/// The deriver, the content address and the outputs of an object.
 #[derive(Drop)]
-pub(crate) struct Details {
-    pub(crate) deriver: Option<StorePath>,
-    pub(crate) ca: Option<Ca>,
-    pub(crate) names: Vec<String>,
-    pub(crate) outputs: Vec<StorePath>,
+pub struct Details {
+    /// The deriver, if one is recorded.
+    pub deriver: Option<StorePath>,
+    /// The content address, if one is recorded.
+    pub ca: Option<Ca>,
+    /// The outputs.
+    pub outputs: Outputs,
 }
 
 /// Boxes details. An object that has none of them needs no box.
@@ -21,8 +24,8 @@ pub(crate) fn boxed(alloc: Global, details: Details) -> Result<Option<Box<Detail
 {
     if details.deriver.is_none()
         && details.ca.is_none()
-        && details.names.is_empty()
-        && details.outputs.is_empty()
+        && details.outputs.names.is_empty()
+        && details.outputs.paths.is_empty()
     {
         return Ok(None);
     }

@@ -25,6 +25,7 @@ mod summary;
 mod temporary;
 
 pub use all_roots::root_list;
+pub use details::Details;
 pub use links::Links;
 pub use outline::Outline;
 pub use outputs::Outputs;

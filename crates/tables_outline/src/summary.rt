@@ -39,15 +39,16 @@ impl Model for Summary {
 }
 
 impl Summary {
-    /// The summary of an object: the size in bytes and the SHA-256 of its archive, its references in order, its deriver
-    /// and its content address, and its outputs, each name with the path at the same place, in the order of names.
+    /// The summary of an object: the size in bytes and the SHA-256 of its archive, its references in order, and its
+    /// details.
     ///
     /// ```rust
     /// use sha2::{Digest, Sha256};
-    /// use tables::Summary;
+    /// use tables::{Details, Outputs, Summary};
     ///
     /// let (hash, references) = (Sha256::digest("abc"), Vec::new(alloc));
-    /// let object = Summary::new(alloc, 3, hash, references, None, None, Vec::new(alloc), Vec::new(alloc))?;
+    /// let outputs = Outputs { names: Vec::new(alloc), paths: Vec::new(alloc) };
+    /// let object = Summary::new(alloc, 3, hash, references, Details { deriver: None, ca: None, outputs })?;
     /// assert_eq!(rt; object.hash(), &Sha256::digest("abc"));
     /// ```
     ///
@@ -59,30 +60,22 @@ impl Summary {
         size: usize,
         hash: [u8; 32],
         references: Vec<StorePath>,
-        deriver: Option<StorePath>,
-        ca: Option<Ca>,
-        names: Vec<String>,
-        outputs: Vec<StorePath>,
+        details: Details,
     ) -> Result<Summary, AllocError>
         requires references { IsTrue (rise references.items) }
-        requires names { IsTrue (rise (map string_bytes names.items)) }
-        requires paths { length outputs.items ≡ length names.items }
+        requires names { IsTrue (rise (map string_bytes details.outputs.names.items)) }
+        requires paths { length details.outputs.paths.items ≡ length details.outputs.names.items }
         ensures { IfOk result
             (λ it. it ≡ record {
               size = size;
               hash = hash;
               references = set_of bytes_cmp references.items;
-              deriver = deriver;
-              ca = ca;
-              outputs = finite.from_entries (zip (map string_bytes names.items) outputs.items);
+              deriver = details.deriver;
+              ca = details.ca;
+              outputs = finite.from_entries
+                  (zip (map string_bytes details.outputs.names.items) details.outputs.paths.items);
             }) }
     {
-        let details = Details {
-            deriver,
-            ca,
-            names,
-            outputs,
-        };
         let details = boxed(alloc, details)?;
         Ok(Summary {
             size,
@@ -179,7 +172,7 @@ impl Summary {
         ensures { map string_bytes result.now ≡ finite.keys self.now.outputs }
     {
         match &self.details {
-            Some(details) => details.names.as_slice(),
+            Some(details) => details.outputs.names.as_slice(),
             None => &[],
         }
     }
@@ -193,7 +186,7 @@ impl Summary {
         ensures { result.now ≡ finite.values self.now.outputs }
     {
         match &self.details {
-            Some(details) => details.outputs.as_slice(),
+            Some(details) => details.outputs.paths.as_slice(),
             None => &[],
         }
     }

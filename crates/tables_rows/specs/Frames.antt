@@ -11,7 +11,7 @@ use Rattle.sqlite.specs.Held.{Held, state}
 use Rattle.tables_schema.specs.Forms.{piece}
 use Rattle.tables_sql.specs.Calls.{IsReady, IsUnderWay, KeepsShown, Changes, HasFurther}
 use Rattle.tables_sql.specs.Contents.{Contents, contents_of}
-pub use Rattle.tables_sql.specs.Frames.{IsInside, StaysInside}
+pub use Rattle.tables_sql.specs.Statements.{IsInside, StaysInside}
 use Rattle.tables_sql.specs.Failures.{FailsFor, FailsToInsert, FailsToRead}
 use Rattle.tables_sql.specs.Rowids.{NumbersOn}
 use Rattle.tables_rows.specs.Reasons.{Rows, HasReason}

@@ -3,9 +3,9 @@ pub use Rattle.tables_schema.specs.Intact
 pub mod Calls
 pub mod Contents
 pub mod Failures
-pub mod Frames
 pub mod Frozen
 pub mod Queries
 pub mod Reading
 pub mod Rowids
+pub mod Statements
 pub mod Texts

@@ -8,7 +8,7 @@ ghost use Rattle.sqlite.specs.Held.{state};
 ghost use Rattle.sqlite.specs.Values.{bound};
 ghost use Rattle.tables_sql.specs.declared.failure.Failed.TheVariants.{Memory, Disk};
 ghost use Rattle.tables_sql.specs.Failures.{IsQueryFailure};
-ghost use Rattle.tables_sql.specs.Frames.{SelectsEntries};
+ghost use Rattle.tables_sql.specs.Statements.{SelectsEntries};
 ghost use Rattle.tables_sql.specs.Queries.{IsSelect, HasBegunWith, IsAnswered};
 
 use crate::entry::Entry;

@@ -8,7 +8,7 @@ ghost use Rattle.sqlite.specs.declared.error.Error.TheVariants.{SqliteFailure};
 ghost use Rattle.sqlite.specs.declared.error.ErrorCode.TheVariants.{OperationInterrupted};
 ghost use Rattle.tables_sql.specs.Failures.{failure_of, FailsWith, IsWriteFailure, IsDeletionFailure};
 ghost use Rattle.tables_sql.specs.Failures.{IsAdditionFailure, without_size};
-ghost use Rattle.tables_sql.specs.Frames.{IsInside, StaysInside, Executes};
+ghost use Rattle.tables_sql.specs.Statements.{IsInside, StaysInside, Executes};
 
 use crate::failure::Failed;
 use sqlite::types::ValueRef;

@@ -17,7 +17,7 @@ use sqlite::Alter;
 use std::alloc::{AllocError, Global};
 use std::collections::BTreeMap;
 use streams::Pieces;
-use tables_outline::{Profile, Summary, root_list};
+use tables_outline::{Details, Outputs, Profile, Summary, root_list};
 use tables_sql::failure::Failed;
 
 /// An object: its archive, and the summary of its other facts.
@@ -45,17 +45,13 @@ fn copied(alloc: Global, object: &Summary) -> Result<Summary, AllocError>
     let references = object.references().to_vec(alloc)?;
     let deriver = object.deriver().cloned()?;
     let names = object.names().to_vec(alloc)?;
-    let outputs = object.outputs().to_vec(alloc)?;
-    let copy = Summary::new(
-        alloc,
-        object.size(),
-        *object.hash(),
-        references,
+    let paths = object.outputs().to_vec(alloc)?;
+    let details = Details {
         deriver,
-        object.ca(),
-        names,
-        outputs,
-    )?;
+        ca: object.ca(),
+        outputs: Outputs { names, paths },
+    };
+    let copy = Summary::new(alloc, object.size(), *object.hash(), references, details)?;
     Ok(copy)
 }
 

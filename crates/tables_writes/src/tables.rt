@@ -94,12 +94,14 @@ impl<S: Alter> Tables<S> {
     /// use nar::Node;
     /// use paths::Ca;
     /// use sha2::{Digest, Sha256};
-    /// use tables::{Pieces, Summary};
+    /// use tables::{Details, Outputs, Pieces, Summary};
     ///
     /// let mut archive = Vec::new(alloc);
     /// nar::write(&Node::Regular { executable: false, contents: b"mycontent\n" }, &mut archive)?;
     /// let (hash, ca) = (Sha256::digest(&archive), Some(Ca::of_text(b"mycontent\n")));
-    /// let object = Summary::new(alloc, 128, hash, Vec::new(alloc), None, ca, Vec::new(alloc), Vec::new(alloc))?;
+    /// let outputs = Outputs { names: Vec::new(alloc), paths: Vec::new(alloc) };
+    /// let details = Details { deriver: None, ca, outputs };
+    /// let object = Summary::new(alloc, 128, hash, Vec::new(alloc), details)?;
     /// let mut nar = Pieces::new(alloc);
     /// nar.append(archive)?;
     /// tables.insert_object(path, &nar, object)?;

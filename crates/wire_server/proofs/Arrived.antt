@@ -11,7 +11,7 @@ use Rattle.wire_server.specs.Heads.{IsHead}
 use Rattle.wire_server.proofs.Heads.{ends_in_line_feed}
 use Rattle.wire_server.specs.declared.head.Head.{Head}
 use Rattle.wire_server.specs.declared.error.Fault.TheVariants.{BadLength}
-use Rattle.wire_server.specs.Messages.{HoldsHead, HoldsTo, ReadsTo, IsFault, EndsInside}
+use Rattle.wire_server.specs.Messages.{AwaitsMore, HoldsHead, HoldsTo, ReadsTo, IsFault, EndsInside}
 use Rattle.wire_server.specs.Division.{closes}
 use Rattle.wire_server.proofs.Longer.{holds-append}
 use Rattle.wire_server.proofs.Reading.{at_end_all, ends_inside}
@@ -38,16 +38,20 @@ held_some held rest h is =
 
 module _ (held read : List ℕ) (head : Head) (size : ℕ) (is : HoldsHead held head size) where
   -- the bytes end inside it
+  inside : length (held ++ read) < head.spans.len + size → EndsInside (held ++ read)
+  inside = ends_inside (held ++ read) head is.0 size (holds-append held read head is.0 is.1) is.2
+
+  pub awaits_body : length (held ++ read) < head.spans.len + size → AwaitsMore (held ++ read)
+  awaits_body short = inr (inside short)
+
   pub cut_short : (n : ℕ) (rest : Option (List ℕ)) → IsAtEnd rest → length (held ++ read) < head.spans.len + size
       → (0 < length (held ++ read)) × IfSome rest (λ more. IsFault ((held ++ read) ++ more) BadLength)
       × ReadsTo n (held ++ read) rest
   cut_short n rest end short =
       let all = held ++ read in
       let some = held_some held _ is.0 is.1.is_head in
-      let inside : EndsInside all =
-      ends_inside all head is.0 size (holds-append held read head is.0 is.1) is.2 short in
       let more : 0 < length all = omega (arith, some, length-append held read) in
-      (more, at_end_all (λ t. IsFault t BadLength) all rest (inr inside) end, inl (end, inside))
+      (more, at_end_all (λ t. IsFault t BadLength) all rest (inr (inside short)) end, inl (end, inside short))
 
   -- it came whole
   module _ {S C B : Type 0} (answers : S → RequestHead → List ℕ → Replied → S → Type 0)

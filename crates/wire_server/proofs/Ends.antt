@@ -12,14 +12,13 @@ use Rattle.wire_server.specs.Messages.{IsFault, HoldsMessage, ReadsTo}
 use Rattle.wire_server.specs.Division.{message, faulty, closes}
 use Rattle.wire_server.specs.Responses.{Replied, reply_bytes}
 use Rattle.wire_server.specs.Answers.{body_in}
-use Rattle.wire_server.specs.Serves.{fault_reply, joined, reported, IsWritten, TakesAll, AwaitsAll, Serves, Stops}
+use Rattle.wire_server.specs.Serves.{fault_reply, joined, reported, IsWritten, AwaitsAll, Serves, Stops}
 use Rattle.wire_server.specs.declared.error.WireError.{WireError}
 use Rattle.wire_server.specs.declared.error.WireError.TheVariants.{Read, Write, Memory}
-use Rattle.wire_server.proofs.Reported.{Reported, divides_all, begins_all, follows_start, follows_read, follows_end}
-use Rattle.wire_server.proofs.Reported.{follows_any, follows_fault, follows_last, follows_more, follows_item}
-use Rattle.wire_server.proofs.Reported.{reaches_start, reaches_read, reaches_here, reaches_fault, reaches_more}
-use Rattle.wire_server.proofs.Waiting.{waits_start, waits_read, waits_more}
-use Rattle.wire_server.proofs.Reported.{joined_more, counted_more, replies_item, replies_fault, stays_more}
+use Rattle.wire_server.proofs.Follows.{follows_start, follows_read, follows_more, begins_open, begins_fault}
+use Rattle.wire_server.proofs.Follows.{begins_item, divides_end, divides_fault, divides_last, takes_few, takes_fault}
+use Rattle.wire_server.proofs.Follows.{takes_item}
+use Rattle.wire_server.proofs.Reported.{Reported, joined_more, counted_more, replies_item, replies_fault, stays_more}
 
 full : (n k : ℕ) → n ≡ 340282366920938463463374607431768211455 → n ≡ k → k < 2 ^ 128 - 1 → ⊥
 full n k is same small = omega arith
@@ -39,8 +38,6 @@ module _ {S : Type 0} (answers : S → RequestHead → List ℕ → Replied → 
         replies = [];
         counted = refl;
         follows = follows_start input;
-        reaches = reaches_start input;
-        waits = waits_start input;
         stays = tt;
         answered = refl;
         written = Appends-nil output;
@@ -53,9 +50,7 @@ module _ {S : Type 0} (answers : S → RequestHead → List ℕ → Replied → 
     done = report.done;
     replies = report.replies;
     counted = report.counted;
-    follows = follows_read input mid rest held (held ++ bs) bs report.done report.follows read refl;
-    reaches = reaches_read input mid rest held bs report.done report.reaches read;
-    waits = waits_read input mid rest held bs report.done report.waits read;
+    follows = follows_read input mid rest held bs report.done report.follows read;
     stays = report.stays;
     answered = report.answered;
     written = report.written;
@@ -70,7 +65,7 @@ module _ {S : Type 0} (answers : S → RequestHead → List ℕ → Replied → 
     items = report.done;
     replies = report.replies;
     bytes = joined report.replies;
-    prefix = begins_all input report.done (follows_any input rest held report.done report.follows);
+    prefix = begins_open held report.done report.stays input rest report.follows;
     read = λ is. absurd (reading is);
     awaited = waiting;
     answered = report.answered;
@@ -96,8 +91,6 @@ module _ {S : Type 0} (answers : S → RequestHead → List ℕ → Replied → 
     replies = report.replies;
     counted = report.counted;
     follows = report.follows;
-    reaches = report.reaches;
-    waits = report.waits;
     stays = report.stays;
     answered = report.answered;
     written = Appends-kept output out out' (joined report.replies) report.written kept;
@@ -112,9 +105,9 @@ module _ {S : Type 0} (answers : S → RequestHead → List ℕ → Replied → 
     items = report.done;
     replies = report.replies;
     counted = ap reported (sym is ∙ report.counted);
-    prefix = begins_all input report.done (follows_any input rest held report.done report.follows);
+    prefix = begins_open held report.done report.stays input rest report.follows;
     whole = λ small. absurd (full n (length report.done) is report.counted small);
-    read = reaches_here input rest held report.done report.reaches few;
+    read = takes_few held report.done report.stays input rest report.follows few;
     answered = report.answered;
     written = report.written;
   }
@@ -127,9 +120,9 @@ module _ {S : Type 0} (answers : S → RequestHead → List ℕ → Replied → 
     items = report.done;
     replies = report.replies;
     counted = ap reported report.counted;
-    prefix = begins_all input report.done (follows_any input rest held report.done report.follows);
-    whole = λ small. divides_all input report.done (follows_end input rest held report.done report.follows none end);
-    read = reaches_here input rest held report.done report.reaches (omega (arith, ap length none));
+    prefix = begins_open held report.done report.stays input rest report.follows;
+    whole = λ small. divides_end held report.done report.stays input rest report.follows none end;
+    read = takes_few held report.done report.stays input rest report.follows (omega (arith, ap length none));
     answered = report.answered;
     written = report.written;
   }
@@ -145,10 +138,9 @@ module _ {S : Type 0} (answers : S → RequestHead → List ℕ → Replied → 
       items = report.done ++ faulty fault ∷ [];
       replies = report.replies ++ fault_reply fault ∷ [];
       counted = ap reported (counted_more report.done (faulty fault) n report.counted);
-      prefix = begins_all input _ (follows_fault false input rest held report.done fault report.follows some is);
-      whole =
-          λ small. divides_all input _ (follows_fault true input rest held report.done fault report.follows some is);
-      read = reaches_fault input rest held report.done fault before report.reaches small near;
+      prefix = begins_fault held report.done report.stays fault input rest report.follows some is;
+      whole = λ small. divides_fault held report.done report.stays fault input rest report.follows some is;
+      read = takes_fault held report.done report.stays fault input rest report.follows before small near;
       answered = replies_fault answers s t report.done report.replies fault report.answered;
       written = sent_more output out out' report.replies (fault_reply fault) report.written sent;
     }
@@ -158,8 +150,8 @@ module _ {S : Type 0} (answers : S → RequestHead → List ℕ → Replied → 
       items = report.done ++ faulty fault ∷ [];
       replies = report.replies ++ fault_reply fault ∷ [];
       bytes = joined report.replies ++ take k (fault_reply fault);
-      prefix = begins_all input _ (follows_fault false input rest held report.done fault report.follows some is);
-      read = λ _. reaches_fault input rest held report.done fault before report.reaches small near;
+      prefix = begins_fault held report.done report.stays fault input rest report.follows some is;
+      read = λ _. takes_fault held report.done report.stays fault input rest report.follows before small near;
       awaited = λ failed. cc;
       answered = replies_fault answers s t report.done report.replies fault report.answered;
       written = (report.replies, fault_reply fault, k, refl, below, refl);
@@ -170,11 +162,6 @@ module _ {S : Type 0} (answers : S → RequestHead → List ℕ → Replied → 
 
   module _ (rest out : Option (List ℕ)) (held : List ℕ) (t : S) (n : ℕ) (head : Head) (size : ℕ) (h : RequestHead)
       (report : Reported answers input rest output out held s t n) (is : HoldsMessage held head size h) where
-    taken : length (drop (head.spans.len + size) held) ≤ 4095
-        → TakesAll input rest (report.done ++ message h (body_in held head size) ∷ [])
-    taken few =
-        reaches_here input rest _ _ (reaches_more held report.done head size h is input rest report.reaches) few
-
     answered_broken : (out' : Option (List ℕ)) (new : S) (r : Replied) (e : WireError) (bytes : List ℕ)
         → (e ≡ Write → length (drop (head.spans.len + size) held) ≤ 4095) → (e ≡ Read → ⊥)
         → answers t h (body_in held head size) r new
@@ -186,8 +173,8 @@ module _ {S : Type 0} (answers : S → RequestHead → List ℕ → Replied → 
       items = report.done ++ message h (body_in held head size) ∷ [];
       replies = report.replies ++ reply_bytes (closes h) r ∷ [];
       bytes = bytes;
-      prefix = begins_all input _ (follows_item held report.done head size h is input rest report.follows);
-      read = λ failed. taken (few failed);
+      prefix = begins_item held report.done report.stays head size h is input rest report.follows;
+      read = λ failed. takes_item held report.done report.stays head size h is input rest report.follows (few failed);
       awaited = λ failed. absurd (writing failed);
       answered =
           replies_item answers s t new report.done report.replies h (body_in held head size) r report.answered answered;
@@ -222,11 +209,9 @@ module _ {S : Type 0} (answers : S → RequestHead → List ℕ → Replied → 
       items = report.done ++ message h (body_in held head size) ∷ [];
       replies = report.replies ++ reply_bytes (closes h) r ∷ [];
       counted = ap reported (counted_more report.done _ n report.counted);
-      prefix = begins_all input _ (follows_last held report.done head size h is false input rest report.follows last);
-      whole =
-          λ small. divides_all input _
-          (follows_last held report.done head size h is true input rest report.follows last);
-      read = taken few;
+      prefix = begins_item held report.done report.stays head size h is input rest report.follows;
+      whole = λ small. divides_last held report.done report.stays head size h is input rest report.follows last;
+      read = takes_item held report.done report.stays head size h is input rest report.follows few;
       answered =
           replies_item answers s t new report.done report.replies h (body_in held head size) r report.answered answered;
       written = sent_more output out out' report.replies (reply_bytes (closes h) r) report.written sent;
@@ -240,9 +225,7 @@ module _ {S : Type 0} (answers : S → RequestHead → List ℕ → Replied → 
       done = report.done ++ message h (body_in held head size) ∷ [];
       replies = report.replies ++ reply_bytes (closes h) r ∷ [];
       counted = counted_more report.done _ n report.counted;
-      follows = follows_more held report.done head size h is input rest report.follows on;
-      reaches = reaches_more held report.done head size h is input rest report.reaches;
-      waits = waits_more held report.done head size h is input rest report.waits;
+      follows = follows_more held report.done report.stays head size h is input rest report.follows;
       stays = stays_more report.done h (body_in held head size) report.stays on;
       answered =
           replies_item answers s t new report.done report.replies h (body_in held head size) r report.answered answered;

@@ -3,6 +3,7 @@ pub mod Ends
 mod Peers
 pub mod Seen
 mod Sofar
+mod Follows
 mod Reported
 mod Turns
 pub mod Arrived
@@ -15,5 +16,4 @@ pub mod Named
 pub mod Once
 pub mod PlainText
 pub mod Reading
-pub mod Waiting
 pub mod Whole

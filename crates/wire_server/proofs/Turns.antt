@@ -14,8 +14,8 @@ use Rattle.wire_server.specs.Arrivals.{Arrives}
 use Rattle.wire_server.specs.Sends.{SendsReply}
 use Rattle.wire_server.specs.Serves.{Serves, Stops, reported}
 use Rattle.wire_server.specs.Exchanges.{Exchanged}
+use Rattle.wire_server.proofs.Follows.{awaits_more}
 use Rattle.wire_server.proofs.Reported.{Reported}
-use Rattle.wire_server.proofs.Waiting.{waits_here}
 use Rattle.wire_server.proofs.Ends.{reported_read, stopped, still, ended, refused, refused_in_part, answered_in_part}
 use Rattle.wire_server.proofs.Ends.{answered_lost, closed, goes_on}
 
@@ -44,7 +44,7 @@ module _ {S : Type 0} (answers : S → RequestHead → List ℕ → Replied → 
   turn_broken decides represents e (read, consumed, brings) =
       let read_told = reported_read answers input output s mid rest out held read t n report consumed in
       stopped answers input output s rest rest out (held ++ read) t n read_told e (λ is. by e brings.0 is)
-      (λ is. waits_here input rest (held ++ read) read_told.done read_told.waits (brings.1 is))
+      (λ is. awaits_more (held ++ read) read_told.done read_told.stays input rest read_told.follows (brings.1 is))
     where
       by : (v : WireError) → IsOfReading v → v ≡ Write → ⊥
       by Read reads is = cc

@@ -15,9 +15,9 @@ insert_object-requires-clause-sound g c w t =
     ∙ sym (c.in_ok-append.ensures.ok ∙ ap (λ (l : List ℕ). l ++ c.write.new.out.items) c.new-nar.ensures))
     c.in_ok-read.ensures.found)
     (ap (λ (o : Outlined). o.references) c.in_ok-object.ensures
-    ∙ ap (λ (l : List (List ℕ)). set_of bytes_cmp l) c.new-2.ensures.items)
+    ∙ ap (λ (l : List (List ℕ)). set_of bytes_cmp l) c.new-4.ensures.items)
     (ap (λ (o : Outlined). o.deriver) c.in_ok-object.ensures)
     (ap (λ (o : Outlined). o.ca) c.in_ok-object.ensures)
     (ap (λ (o : Outlined). o.outputs) c.in_ok-object.ensures
     ∙ ap (λ (l : List (String Global)). finite.from_entries {R = bytes_cmp}
-    (zip (map string_bytes l) c.new-4.result.items)) c.new-3.ensures.items)
+    (zip (map string_bytes l) c.new-3.result.items)) c.new-2.ensures.items)

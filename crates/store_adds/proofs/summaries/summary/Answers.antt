@@ -14,8 +14,9 @@ returns c =
     c.in_ok-object.ensures ∙ (λ i. record {
       size = c.args.size;
       hash = c.args.hash;
-      references = (ap (set_of bytes_cmp) c.in_order.ensures ∙ set_again (set_of bytes_cmp c.args.recorded.refs.items)) i;
+      references =
+          (ap (set_of bytes_cmp) c.in_order.ensures ∙ set_again (set_of bytes_cmp c.args.recorded.refs.items)) i;
       deriver = c.args.recorded.deriver;
       ca = c.args.recorded.ca;
-      outputs = c.in_ok-names.ensures.all i;
+      outputs = c.in_ok-outputs.ensures.all i;
     })

@@ -20,9 +20,9 @@ returns-then-is_empty-2 c =
       deriver = none_is d.deriver c.is_none.result c.is_none.ensures c.if-is_none.true i;
       ca = none_is d.ca c.is_none-then-is_none.result c.is_none-then-is_none.ensures c.if-is_none-2.true i;
       names =
-          map string_bytes (nothing_is d.names.items d.names.len c.is_empty.result c.is_empty.ensures c.if-is_empty.true
-          d.names.ok.0 i);
+          map string_bytes (nothing_is d.outputs.names.items d.outputs.names.len c.is_empty.result c.is_empty.ensures
+          c.if-is_empty.true d.outputs.names.ok.0 i);
       outputs =
-          nothing_is d.outputs.items d.outputs.len c.is_empty-then-is_empty.result c.is_empty-then-is_empty.ensures
-          c.if-is_empty-2.true d.outputs.ok.0 i;
+          nothing_is d.outputs.paths.items d.outputs.paths.len c.is_empty-then-is_empty.result
+          c.is_empty-then-is_empty.ensures c.if-is_empty-2.true d.outputs.paths.ok.0 i;
     }

@@ -23,7 +23,7 @@ new-requires-clause-names c =
 pub new-requires-clause-paths : goal.new-requires-clause-paths
 new-requires-clause-paths c =
     let names = same_texts c.names.result.now c.in_ok-names.names.items c.in_ok-names.ensures.ok ∙ c.names.ensures in
-    ap length (c.in_ok-outputs.ensures.items_if_clones_equal (λ x y h. h) ∙ c.outputs.ensures)
+    ap length (c.in_ok-paths.ensures.items_if_clones_equal (λ x y h. h) ∙ c.outputs.ensures)
     ∙ values_length c.args.object.now.outputs ∙ ap length (sym names)
     ∙ mapped_length string_bytes c.in_ok-names.names.items
 
@@ -31,7 +31,7 @@ pub returns : goal.returns
 returns c =
     let references = c.in_ok-references.ensures.items_if_clones_equal (λ x y h. h) ∙ c.references.ensures in
     let names = same_texts c.names.result.now c.in_ok-names.names.items c.in_ok-names.ensures.ok ∙ c.names.ensures in
-    let outputs = c.in_ok-outputs.ensures.items_if_clones_equal (λ x y h. h) ∙ c.outputs.ensures in
+    let outputs = c.in_ok-paths.ensures.items_if_clones_equal (λ x y h. h) ∙ c.outputs.ensures in
     c.in_ok-copy.ensures ∙ (λ i. record {
       size = c.size.ensures i;
       hash = c.hash.ensures i;

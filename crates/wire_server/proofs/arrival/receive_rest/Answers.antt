@@ -2,8 +2,7 @@ use Rattle.std.proofs.Common.{◌++◌, Ok, Err, ap}
 use Rattle.std.proofs.lemmas.Result.{err_from_is_err_and}
 use Rattle.wire_server.specs.Answers.{body_in}
 use Rattle.wire_server.specs.declared.responder.Begun.TheVariants.{Accepted, Refused}
-use Rattle.wire_server.proofs.Arrived.{cut_short, whole_arrives}
-use Rattle.wire_server.proofs.Waiting.{awaits_body}
+use Rattle.wire_server.proofs.Arrived.{awaits_body, cut_short, whole_arrives}
 use Rattle.wire_server.proofs.arrival.receive_rest.Goals as goal
 
 pub returns-then-branch : goal.returns-then-branch

@@ -8,7 +8,7 @@ use Rattle.tables_outline.proofs.summary.Summary.names.Goals as goal
 
 pub returns-in-Some : goal.returns-in-Some
 returns-in-Some c =
-    ap (map string_bytes) (c.as_slice.ensures.value ∙ ap (λ (d : Details). d.names.items) c.deref.ensures)
+    ap (map string_bytes) (c.as_slice.ensures.value ∙ ap (λ (d : Details). d.outputs.names.items) c.deref.ensures)
     ∙ ap (λ (d : Option (Box Details Global)). (details_of d).names) (sym c.in-Some.is)
     ∙ names_are c.self.inside c.self.invariant
     ∙ ap (λ (o : Outlined). finite.keys o.outputs) c.self.view_is

@@ -13,7 +13,7 @@ invariant_of-result c = record {
   names = subst (λ (d : DetailsValue). IsTrue (rise d.names)) (sym c.in_ok-details.ensures) c.requires.names;
   paths =
       subst (λ (d : DetailsValue). length d.outputs ≡ length d.names) (sym c.in_ok-details.ensures)
-      (c.requires.paths ∙ sym (mapped_length string_bytes c.args.names.items));
+      (c.requires.paths ∙ sym (mapped_length string_bytes c.args.details.outputs.names.items));
 }
 
 pub returns : goal.returns

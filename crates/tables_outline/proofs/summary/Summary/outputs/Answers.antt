@@ -8,7 +8,7 @@ use Rattle.tables_outline.proofs.summary.Summary.outputs.Goals as goal
 
 pub returns-in-Some : goal.returns-in-Some
 returns-in-Some c =
-    c.as_slice.ensures.value ∙ ap (λ (d : Details). d.outputs.items) c.deref.ensures
+    c.as_slice.ensures.value ∙ ap (λ (d : Details). d.outputs.paths.items) c.deref.ensures
     ∙ ap (λ (d : Option (Box Details Global)). (details_of d).outputs) (sym c.in-Some.is)
     ∙ paths_are c.self.inside c.self.invariant
     ∙ ap (λ (o : Outlined). finite.values o.outputs) c.self.view_is
