@@ -7,6 +7,7 @@ import hashlib
 import json
 import os
 import random
+import re
 import shutil
 import signal
 import socket
@@ -165,6 +166,29 @@ def cache(folder: str, port: int, place: int | str | None = None, *more: str) ->
     words = [f"{TOOLS}/nixkeep-cache", "--store", f"127.0.0.1:{port}", "--listen", listen]
     words += ["--waiting", f"{folder}/waiting", "--patience", "300"]
     return Part("nixkeep-cache", [*words, *(more or ["--proxied"])], place, f"{folder}/cache.log")
+
+
+def nginx_conf(folder: str, name: str, places: dict[str, str], port: int, how: str = "events {}",
+               change: Callable[[str], str] = lambda text: text) -> str:
+    """Makes a configuration of nginx in a folder: a file of this folder with its snippets, but for places and the port,
+    with `how` for all of nginx. `change` changes the text of each. Returns the file."""
+    def placed(name):
+        text = Path(f"{HERE}/{name}").read_text()
+        for here, there in places.items():
+            text = text.replace(here, there)
+        return change(re.sub(r"\blisten( +)443", rf"listen\g<1>127.0.0.1:{port}", text))
+
+    for it in ("nginx", "snippets", "log"):
+        os.makedirs(f"{folder}/{it}", exist_ok=True)
+    for it in ("nixkeep-http.conf", "nixkeep-server.conf"):
+        Path(f"{folder}/snippets/{it}").write_text(placed(it))
+    kinds = "client_body", "proxy", "fastcgi", "uwsgi", "scgi"
+    temporary = "".join(f"    {it}_temp_path {folder}/{it};\n" for it in kinds)
+    Path(file := f"{folder}/nginx.conf").write_text(
+        f"daemon off;\npid nginx.pid;\n{'user root;' if os.geteuid() == 0 else ''}\n{how}\n"
+        # (a log for all servers, as Debian's own file has it)
+        f"http {{\n    access_log {folder}/log/access.log;\n{temporary}{placed(name)}\n}}\n")
+    return file
 
 
 # Passes an open socket to a program as systemd does: as number 3, with its own process number.

@@ -156,7 +156,7 @@ ssize_t send(int fd, const void *from, size_t size, int how) {
 
 #if defined FAULT_FLIPPED_BIT || defined FAULT_CUT_REPLY || defined FAULT_DISK_AS_MEMORY || defined FAULT_MEMORY_AS_DISK \
     || defined LINES || defined FAULT_LOST_ROOT || defined FAULT_ANOTHER_STATUS \
-    || defined FAULT_ANOTHER_FIELD
+    || defined FAULT_LOST_FIELD
 static ssize_t changed(char *made, const char *from, size_t size) {
 #if defined FAULT_FLIPPED_BIT
   /* (one bit, late in what a process writes) */
@@ -171,13 +171,16 @@ static ssize_t changed(char *made, const char *from, size_t size) {
   return size > 65 ? size / 2 : size;
 #elif defined FAULT_ANOTHER_STATUS
   memcpy(made, from, size);
-  if (size > 12 && !memcmp(from, "HTTP/1.1 404", 12)) made[11] = '5';
+  if (size > 12 && !memcmp(from, "HTTP/1.1 404", 12)) memcpy(made + 9, "200", 3);
   return size;
-#elif defined FAULT_ANOTHER_FIELD
-  memcpy(made, from, size);
-  char *field = memmem(made, size, "\nallow: ", 8);
-  if (field) field[4] = 'a';
-  return size;
+#elif defined FAULT_LOST_FIELD
+  /* (the whole line) */
+  const char *field = memmem(from, size, "\nallow: ", 8), *end = from + size;
+  const char *next = field ? memchr(field + 1, '\n', end - field - 1) : NULL;
+  if (!next) field = next = end;
+  memcpy(made, from, field - from);
+  memcpy(made + (field - from), next, end - next);
+  return size - (next - field);
 #elif defined FAULT_DISK_AS_MEMORY || defined FAULT_MEMORY_AS_DISK
 #ifdef FAULT_DISK_AS_MEMORY
   const char *was = "refused: 21 bad-schema\n", *is = "failed: memory\n";

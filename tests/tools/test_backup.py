@@ -7,6 +7,7 @@ import contextlib
 import datetime
 import errno
 import fcntl
+import functools
 import itertools
 import json
 import os
@@ -24,8 +25,8 @@ import pytest
 from nixkeep_dev.build.program import HERE
 from nixkeep_dev.testing import stores
 from nixkeep_dev.testing.store import killed
-from nixkeep_tools import as_owner, backup_check, backup_file, backup_folder, backup_restore, http_client, objects
-from nixkeep_tools import store_file, store_size
+from nixkeep_tools import as_owner, backup_check, backup_fetch, backup_file, backup_folder, backup_restore, http_client
+from nixkeep_tools import objects, store_file, store_size
 from nixkeep_tools.failures import Stop
 from tests.tools import servers
 from tests.tools.servers import ran
@@ -239,6 +240,19 @@ def test_a_copy_leaves_room(store, monkeypatch):
     free[0] = least
     backup_file.copy(store.file, to)
     assert backup_file.rows(to)[0] == 6
+
+
+def test_a_folder_that_others_may_write(store, good):
+    """Nothing is made there: what others put next to the copy could have SQLite write or delete a file of root's."""
+    for mode in (0o777, 0o775, 0o1777):
+        os.chmod(store.to, mode)
+        fails(store.copy(), "other accounts may write there", store, good)
+    os.chmod(store.to, 0o755)
+    if os.geteuid() == 0:
+        os.chown(store.to, 1234, 1234)
+        fails(store.copy(), "other accounts may write there", store, good)
+        os.chown(store.to, 0, 0)
+    assert store.copy()[0] == 0
 
 
 def test_a_log_of_a_copy_that_is_damaged(folder):
@@ -520,6 +534,26 @@ def test_a_copy_through_a_server(store):
     is_the_copy(store, wanted)
 
 
+def test_a_copy_through_a_server_leaves_room(store, monkeypatch):
+    """As one of a file: at its beginning, and where others fill the disk meanwhile."""
+    real, asked, left = os.statvfs, [], 64 << 20
+    room = lambda free: types.SimpleNamespace(f_blocks=1, f_frsize=1, f_bavail=free)
+    monkeypatch.setattr(os, "statvfs", lambda it: room(frees[len(asked)]) if it == store.to else real(it))
+    demand = backup_file.demand_room
+    monkeypatch.setattr(backup_file, "demand_room", lambda size, path: (demand(size, path), asked.append(size)))
+    with servers.server(store.program, "--config", store.config, "--db", store.file) as port:
+        server = http_client.Server(http_client.Place(f"http://127.0.0.1:{port}"), {"store-user": "build"})
+        source = objects.Store(server, "build", "/nix/store")
+        total = int(backup_file.TOTAL.search(asker(source)("build", "GET", "/report"))[2])
+        for frees, count in (([left + total - 1], 0), ([left + total] * 2 + [left], 2), ([left + total] * 9, 7)):
+            asked.clear()
+            refused = pytest.raises(Stop, match=f"^failed: room: {store.to} has {frees[-1]} bytes left, too few")
+            with refused if count < 7 else contextlib.nullcontext():
+                backup_fetch.fetch(source, store.program, {}, f"{store.to}/new{count}.db")
+            assert len(asked) == count and asked[0:1] == [total][:count]
+        source.close()
+
+
 def test_a_copy_of_labels_that_look_like_others(store):
     """A trusted user may give runtime roots any label, also that of what a caller may not see."""
     with servers.server(store.program, "--config", store.config, "--db", store.file) as port:
@@ -610,10 +644,27 @@ def restored(store, good, units):
 def test_a_restore_from_what_is_no_copy_stops_nothing(store, restored, units):
     os.mkfifo(pipe := f"{store.folder}/pipe.db")
     for file, line in ((store.damaged(), "hash isn't"), (f"{store.folder}/none.db", "No such file"),
-                       (store.config, "not a database"), (pipe, "it is no file"), (store.folder, "it is no file")):
+                       (store.config, "not a database"), (pipe, "it is no file"), (store.folder, "it is no file"),
+                       (of_later_schema(store), "made by a later version")):
         status, _, errors = restored(file)
         assert status == 1 and line in errors and errors.count("\n") == 1, file
     assert not units.notes.exists()
+
+
+def test_a_restore_leaves_room(store, good, monkeypatch):
+    """As a copy does: a file with a length and no bytes fills no disk."""
+    copy, real, before = f"{store.folder}/long.db", os.statvfs, store.bytes()
+    shutil.copy(f"{store.to}/{store.copies()[0]}", copy)
+    os.truncate(copy, 1 << 26)
+    free = [(1 << 26) + (64 << 20) - 1]
+    seen = lambda _: types.SimpleNamespace(f_blocks=1, f_frsize=1, f_bavail=free[0])
+    monkeypatch.setattr(os, "statvfs", lambda it: seen(it) if it == store.folder else real(it))
+    with pytest.raises(Stop, match=f"^failed: room: {store.folder} has {free[0]} bytes left, too few"):
+        backup_restore.put(copy, store.folder)
+    assert store.bytes() == before and not [*Path(store.folder).glob("aside-*")]
+    shutil.copy(f"{store.to}/{store.copies()[0]}", copy)
+    free = [os.stat(copy).st_size + (64 << 20)]
+    assert backup_restore.put(copy, store.folder).startswith(f"{store.folder}/aside-")
 
 
 def test_a_restore_without_room(store, restored, units):
@@ -624,6 +675,67 @@ def test_a_restore_without_room(store, restored, units):
     assert store.bytes() == before, "leaves the store"
     assert [name for name in os.listdir(store.folder) if name.startswith(("aside-", "store.new"))] == []
     assert all((units.folder / unit).exists() for unit in UNITS), "whose units run again"
+
+
+@pytest.mark.parametrize("what", ["a link", "another store"])
+def test_a_restore_from_a_copy_that_another_changes(what, store, restored, units):
+    """Whoever may write the folder of a copy puts something else in its place once it is tested, as units are stopped.
+    What is put in the place of the store is what was tested."""
+    copy, secret = f"{store.folder}/theirs/copy.db", Path(store.folder, "secret")
+    os.mkdir(f"{store.folder}/theirs")
+    shutil.copy(f"{store.to}/{store.copies()[0]}", copy)
+    with store.opened() as ask:
+        wanted = all_of(ask)
+    secret.write_text("what root alone may read\n")
+    change = {"a link": f"ln -sfn {secret} {copy}", "another store": f"echo none >{copy}"}[what]
+    command = units.folder / "bin/systemctl"
+    command.write_text(SYSTEMCTL.replace("case $1 in", f"[ $1 != stop ] || {change}\ncase $1 in"))
+    assert restored(copy)[0] == 0 and "stop" in units.notes.read_text()
+    assert Path(copy).read_text() == {"a link": secret.read_text(), "another store": "none\n"}[what]
+    with store.opened() as ask:
+        assert all_of(ask) == wanted
+
+
+def test_a_restore_of_another_store(store, restored, units):
+    """A copy in the folder of another store's copies is refused, since whoever reads this store would read that one."""
+    green, red = (f"{store.folder}/nixkeep-backup/{it}" for it in ("green", "red"))
+    for it in (green, red):
+        shutil.copytree(store.to, it)
+    os.symlink(f"{green}/{store.copies()[0]}", f"{store.folder}/link.db")
+    for it in (f"{green}/{store.copies()[0]}", f"{store.folder}/link.db"):
+        fails_with("it is one of the store green", restored(it))
+    assert not units.notes.exists(), "and nothing is stopped"
+    assert restored(f"{red}/{store.copies()[0]}")[0] == 0
+
+
+@pytest.mark.parametrize("name", ["", "*", "red*", "re[d]", "../red", "a b", "a\nb", "\x1b[2J"])
+def test_a_restore_of_what_is_no_name(name, store, good, units):
+    """systemctl takes some names for those of many units."""
+    words = [*store.options("restore"), "--folder", store.folder, name, f"{store.to}/{store.copies()[0]}"]
+    status, output, errors = backup(*words, env=units.env)
+    assert (status, output) == (1, "") and errors.startswith("nixkeep-backup: failed: name: "), errors
+    assert errors.isascii() and errors.count("\n") == 1 and errors[:-1].isprintable()
+    assert not units.notes.exists()
+
+
+def test_a_restore_of_a_store_that_is_stopped(store, restored, units):
+    """It stays so, and the line says it."""
+    units.set()
+    status, output, errors = restored(f"{store.to}/{store.copies()[0]}")
+    assert status == 0 and output.endswith("; nixkeep@red.service didn't run, and isn't started\n"), (output, errors)
+    assert not any((units.folder / it).exists() for it in UNITS)
+
+
+@pytest.mark.parametrize("name", ["-x", "a b", "a?b#c%41&mode=memory", "a\nb", "\x1b]0;title\x07", "\udcff", "'$(x)"])
+def test_names_of_copies(name, store, restored):
+    """A file of any name is put back, and copied. Nothing of its name is meant for a terminal."""
+    # (the program takes words in UTF-8 alone, so a new file may have no other name)
+    copy, to = f"{store.folder}/{name}.db", store.to if name == "\udcff" else f"{store.folder}/{name}"
+    shutil.copy(f"{store.to}/{store.copies()[0]}", copy)
+    os.makedirs(to, exist_ok=True)
+    for came in (restored(copy), backup(*store.options("copy"), "--db", copy, "--to", to)):
+        status, output, errors = came
+        assert (status, errors) == (0, "") and output.count("\n") == 1 and output[:-1].isprintable(), came
 
 
 def test_a_restore(store, restored, units):
@@ -672,7 +784,7 @@ def failing_at(patch, place, error):
 @pytest.mark.parametrize("error", [Stopped(), OSError(errno.EIO, "none")], ids=["stopped", "failing"])
 def test_a_restore_that_is_stopped(error, store, good, monkeypatch):
     """At each step: a server opens the store as it was with its log, or as the copy has it, or refuses the file. Then
-    all that was there is in the folder for that, or in its place."""
+    all that was there is in the folder for that, or in its place. A step that fails leaves no file that is refused."""
     was, copy, refused = store.bytes(), f"{store.to}/{store.copies()[0]}", 0
     listed = lambda file: ran([store.program, "--config", store.config, "--db", file, "--user", "build", "roots"])
     wanted = listed(copy)
@@ -692,7 +804,69 @@ def test_a_restore_that_is_stopped(error, store, good, monkeypatch):
             aside, = room.glob("aside-*")
             assert {it: next(at / it for at in (aside, room) if (at / it).exists()).read_bytes() for it in was} == was
             refused += 1
-    assert place > 10 and 0 < refused < 8
+    assert place > 10 and (0 < refused < 8 if isinstance(error, Stopped) else not refused)
+
+
+def noted(patch):
+    """The syncs of files and folders from now on, by their numbers, and the names that are given, each with the numbers
+    of the file and its folder."""
+    notes, real = [], {it: getattr(os, it) for it in ("fsync", "rename", "link")}
+
+    def sync(number):
+        notes.append(os.fstat(number).st_ino)
+        real["fsync"](number)
+
+    def give(what, name, to, **where):
+        real[what](name, to, **where)
+        folder = where.get("dst_dir_fd")
+        seen = os.stat(os.path.dirname(to)) if folder is None else os.fstat(folder)
+        notes.append((os.stat(to, dir_fd=folder, follow_symlinks=False).st_ino, seen.st_ino))
+
+    patch.setattr(os, "fsync", sync)
+    for it in ("rename", "link"):
+        patch.setattr(os, it, functools.partial(give, it))
+    return notes
+
+
+@pytest.mark.parametrize("what, names", [("copy", 1), ("restore", 3), ("before a migration", 1)])
+def test_what_has_a_name_is_on_the_disk(what, names, store, good, monkeypatch):
+    """A file is synced before it has its name, and the folder after that. Else a power cut could leave a name without
+    what it names, or take a name on which the next step relies."""
+    copy, file = f"{store.to}/{store.copies()[0]}", f"{store.folder}/old.db"
+    of_schema_1(file)
+    old = {os.stat(it).st_ino for it in (store.file, f"{store.file}-wal", file)}
+    run = {"copy": lambda: backup_folder.add(store.to, lambda path: backup_file.copy(store.file, path)),
+           "restore": lambda: backup_restore.put(copy, store.folder),
+           "before a migration": lambda: backup_file.before_migration(types.SimpleNamespace(db=file, config=None))}
+    with monkeypatch.context() as patch:
+        notes = noted(patch)
+        run[what]()
+    given = [(at, *it) for at, it in enumerate(notes) if isinstance(it, tuple)]
+    assert len(given) == names
+    for at, number, folder in given:
+        assert number in old or number in notes[:at], "the file"
+        assert folder in notes[at:], "its folder"
+
+
+@pytest.mark.parametrize("error", [Stopped(), OSError(errno.ENOSPC, "none")], ids=["stopped", "failing"])
+def test_a_copy_that_is_stopped(error, store, good, monkeypatch):
+    """At each step: the good copies are as they were, a new one is whole, and the next run makes another one."""
+    made = lambda: backup_folder.add(store.to, lambda path: backup_file.copy(store.file, path))
+    for place in itertools.count():
+        with monkeypatch.context() as patch, contextlib.suppress(Stopped, OSError, Stop):
+            reached = failing_at(patch, place, error)
+            made()
+        if next(reached) <= place:
+            break
+        copies = {name: data for name, data in store.bytes_of_copies().items() if backup_folder.time_of(name)}
+        assert good.items() <= copies.items() and len(copies) <= 2, place
+        for it in copies.keys() - good.keys():
+            assert backup_file.rows(f"{store.to}/{it}")[0] == 6
+            os.unlink(f"{store.to}/{it}")
+        name, _ = made()
+        assert sorted(store.copies()) == sorted([*good, name]), "and nothing else is left"
+        os.unlink(f"{store.to}/{name}")
+    assert place > 8
 
 
 def test_two_restores_at_once(store, restored):
@@ -711,7 +885,8 @@ def test_a_restore_whose_terminal_is_lost(number, store, good, units):
     before, held = store.bytes(), units.folder / "held"
     words = [*store.options("restore"), "--folder", store.folder, "red", f"{store.to}/{store.copies()[0]}"]
     held.touch()
-    with at_work(words, lambda: units.notes.exists() and "stop" in units.notes.read_text(), units.env) as running:
+    # (the first unit is gone: a command of systemctl's that is killed before would remove it later)
+    with at_work(words, lambda: not (units.folder / UNITS[0]).exists(), units.env) as running:
         running.send_signal(number)
         time.sleep(0.5)
         held.unlink()
@@ -759,14 +934,14 @@ def test_a_restore_below_a_server_that_is_none_of_the_units(store, restored, uni
 
 def test_a_store_that_is_begun_in_a_restore(store, good, folder, monkeypatch):
     """It stays, and the restore fails. Where there is a store a server is refused meanwhile."""
-    copy, real, answers = f"{store.to}/{store.copies()[0]}", backup_restore.fill, []
+    copy, real, answers = f"{store.to}/{store.copies()[0]}", backup_restore.move_aside, []
     listed = lambda room: ran([store.program, "--db", f"{room}/store.db", "--user", "ann", "list"])
 
-    def fill(name, number, source):
-        real(name, number, source)
-        answers.append(listed(os.readlink(f"/proc/self/fd/{number}")))
+    def move_aside(names, room, aside):
+        answers.append(listed(os.readlink(f"/proc/self/fd/{room}")))
+        real(names, room, aside)
 
-    monkeypatch.setattr(backup_restore, "fill", fill)
+    monkeypatch.setattr(backup_restore, "move_aside", move_aside)
     os.mkdir(empty := f"{folder}/empty")
     with pytest.raises(Stop, match="File exists"):
         backup_restore.put(copy, empty)
@@ -842,7 +1017,24 @@ def test_a_file_that_is_no_store_before_a_migration(folder):
 # ---- words
 
 
-@pytest.mark.parametrize("words", ["", "copy", "copy --db a", "fetch", "restore red", "nope", "check --db a"])
+@pytest.mark.parametrize("tool", ["nixkeep-backup", "nixkeep-explain"])
+def test_the_environment_of_another(tool, store, good):
+    """What root runs by `su` has the path and the variables of a user. No program and no module there is run."""
+    place = Path(store.folder, "theirs")
+    place.mkdir()
+    (place / "python3").write_text(f"#!/bin/sh\ntouch {place}/ran\n")
+    (place / "python3").chmod(0o755)
+    for it in ("argparse.py", "sqlite3.py", "sitecustomize.py"):
+        (place / it).write_text(f"open('{place}/ran', 'w')\n")
+    env = {"PATH": f"{place}:{os.environ['PATH']}", "PYTHONPATH": str(place)}
+    words = {"nixkeep-backup": [*store.options("copy"), "--db", store.file, "--to", store.to],
+             "nixkeep-explain": [store.file]}
+    assert ran([f"{HERE}/tools/{tool}", *words[tool]], env={**os.environ, **env}, cwd=place)[0] == 0
+    assert not (place / "ran").exists()
+
+
+@pytest.mark.parametrize("words", ["", "copy", "copy --db a", "fetch", "restore red", "nope", "check --db a",
+                                   *(f"copy --db a --to b --seconds {it}" for it in ("0", "-1", "99999999999", "x"))])
 def test_usage_errors(words):
     status, output, errors = backup(*words.split())
     assert status == 2 and not output and errors.startswith("usage: ")

@@ -2,8 +2,9 @@
 starts again.
 
 test_cache_store has a server that is its child, servers that die, limits and sessions, test_cache_recent records that
-are answered from memory, test_cache_costs what one user's requests cost others, test_cache_signatures signatures, and
-test_cache_watch metrics, health, the record of changes and the last day.
+are answered from memory, test_cache_at_once those that are answered without aiohttp, test_cache_costs what one user's
+requests cost others, test_cache_signatures signatures, and test_cache_watch metrics, health, the record of changes and
+the last day.
 """
 import concurrent.futures
 import contextlib

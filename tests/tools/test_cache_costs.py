@@ -19,8 +19,8 @@ import parts
 from nixkeep_dev.testing import nar, stores
 from nixkeep_tools import blob_packing, cache, cache_ending, cache_large, cache_records, cache_shares, cache_sweep, drv
 from nixkeep_tools import cache_changes, cache_http, cache_limit, cache_listings, cache_metrics, cache_names
-from nixkeep_tools import cache_overview, cache_passing, cache_room, cache_server, cache_uploads, cache_watched
-from nixkeep_tools import overview_day, overview_source, pointers, store_file
+from nixkeep_tools import cache_overview, cache_passing, cache_places, cache_room, cache_server, cache_uploads
+from nixkeep_tools import cache_watched, overview_day, overview_source, pointers, store_file
 from parts import body
 from tests.tools import large
 from tests.tools.cached import ask, file_name, record
@@ -289,7 +289,7 @@ def test_a_user_leaves_room_for_others():
     class Request(dict):
         def __init__(self, user):
             super().__init__(caller=cache_server.Caller(user, None))
-            self.transport = types.SimpleNamespace(abort=lambda: aborted.append(user))
+            self.transport = types.SimpleNamespace(abort=lambda: aborted.append(user), is_closing=lambda: False)
 
     async def run():
         room, counts = cache_room.Room(8), []
@@ -312,6 +312,117 @@ def test_a_user_leaves_room_for_others():
 
     assert asyncio.run(run()) == [4, 2, 1, 1]
     assert {*aborted} == {"bob"}
+
+
+class Asked(dict):
+    """A request, whose client may have left."""
+
+    def __init__(self, user, is_gone=False):
+        super().__init__(caller=cache_server.Caller(user, None))
+        self.transport = types.SimpleNamespace(abort=lambda: None, is_closing=lambda: is_gone)
+
+
+def test_nothing_waits_for_a_client_that_has_left(monkeypatch):
+    """Whoever sends requests and leaves has nothing that waits, and no other client loses its room by that."""
+    monkeypatch.setattr(cache_room, "LOOK", 0.1)
+    room, left = cache_room.Room(8), []
+
+    async def holds(request, size):
+        try:
+            async with room.taken(request, size):
+                await asyncio.sleep(60)
+        except cache_room.Left:
+            left.append(size)
+
+    async def run():
+        tasks = [asyncio.ensure_future(holds(Asked("bob"), 6))]
+        await asyncio.sleep(0)
+        room.held[0].began = room.held[0].since = -60
+        tasks += [asyncio.ensure_future(holds(Asked("ann", True), 4)) for _ in range(20)]
+        tasks += [asyncio.ensure_future(holds(Asked("carl"), 5))]
+        await asyncio.sleep(0.05)
+        lost = [it.user for it in room.held if it.is_lost]
+        await asyncio.sleep(0.2)
+        waiting = [it.user for user in room.waiting.values() for it in user]
+        for it in tasks:
+            it.cancel()
+        return lost, waiting
+
+    assert asyncio.run(run()) == (["bob"], ["carl"]), "the one that is there gets its room"
+    assert left == [4] * 20
+
+
+def test_thousands_that_wait_take_little_time():
+    """The time for one more that waits, for room or for a place, doesn't grow with their number."""
+    async def wait(made, count):
+        tasks = [asyncio.ensure_future(made()) for _ in range(count)]
+        await asyncio.sleep(0)
+        for it in tasks:
+            it.cancel()
+        await asyncio.gather(*tasks, return_exceptions=True)
+
+    def of_room(count):
+        room = cache_room.Room(8)
+        return lambda: asyncio.run(wait(lambda: holding(room.taken(Asked("ann"), 4)), count))
+
+    def of_places(count):
+        places = cache_places.Places(2, 2, 0)
+        return lambda: asyncio.run(wait(lambda: holding(places.taken("ann")), count))
+
+    for it in (of_room, of_places):
+        takes_linear_time(it, (500, 4_000))
+
+
+async def holding(taken):
+    async with taken:
+        await asyncio.sleep(60)
+
+
+def test_users_take_turns_at_places():
+    """Of those that wait, one of each user gets a place before a second one does."""
+    order = []
+
+    async def at(places, user):
+        async with places.taken(user):
+            order.append(user)
+            await asyncio.sleep(0)
+
+    async def run():
+        places = cache_places.Places(1, 1, 0)
+        await asyncio.gather(*(at(places, user) for user in ["ann"] * 5 + ["bob"] * 2 + ["carl"]))
+
+    asyncio.run(run())
+    assert order == ["ann", "ann", "bob", "carl", "ann", "bob", "ann", "ann"]
+
+
+@pytest.mark.parametrize("made, is_idle", [
+    (lambda: cache_places.Places(3, 2, 1), lambda it: not it.running),
+    (lambda: cache_room.Room(8), lambda it: not it.held and not it.bytes),
+])
+def test_whoever_leaves_gives_back_what_it_has(made, is_idle, monkeypatch):
+    """Whenever one that waits or has something is cancelled: all is there again, and nobody waits for what is free."""
+    monkeypatch.setattr(cache_room, "LOOK", 0.005)
+
+    async def has(taken, rng):
+        async with taken:
+            for _ in range(rng.randint(0, 3)):
+                await asyncio.sleep(0)
+
+    async def run(rng):
+        it, tasks = made(), []
+        for _ in range(60):
+            user, size = rng.choice("abc"), rng.randint(1, 9)
+            taken = it.taken(Asked(user), size) if isinstance(it, cache_room.Room) else it.taken(user)
+            tasks.append(asyncio.ensure_future(has(taken, rng)))
+            for task in tasks:
+                if rng.random() < 0.1:
+                    task.cancel()
+            await asyncio.sleep(0)
+        async with asyncio.timeout(60):
+            await asyncio.gather(*tasks, return_exceptions=True)
+        return is_idle(it) and not it.waiting
+
+    assert all(asyncio.run(run(random.Random(seed))) for seed in range(40))
 
 
 def test_records_of_an_archive_that_waits(program, folder):
@@ -606,7 +717,7 @@ def test_an_end_waits_for_no_reader():
     class Request(dict):
         def __init__(self, name, **more):
             super().__init__(more)
-            self.transport = types.SimpleNamespace(abort=lambda: closed.append(name))
+            self.transport = types.SimpleNamespace(abort=lambda: closed.append(name), is_closing=lambda: False)
             self.content = types.SimpleNamespace(total_bytes=0)
 
     reader, upload = Request("reader", waits=True, sent=0), Request("upload", waits=True)
@@ -629,6 +740,18 @@ def test_an_end_waits_for_no_reader():
     finally:
         cache_ending.LOOK = look
     assert {*closed} == {"reader"}, "a fast reader is cut off, and nobody else"
+
+
+def test_an_end_waits_for_no_client_that_has_left(monkeypatch):
+    """Nor for thousands of requests of one that leaves each time."""
+    monkeypatch.setattr(cache_ending, "LINGER", 0)
+    monkeypatch.setattr(cache_ending, "FINISH", 5)
+    ending = cache_ending.Ending()
+    ending.is_idle.clear()
+    ending.running = dict(enumerate(Asked("ann", True) for _ in range(4_000)))
+    began = time.monotonic()
+    asyncio.run(ending.begin(None))
+    assert time.monotonic() - began < 5
 
 
 @pytest.mark.needs("python3-zstandard")
@@ -691,7 +814,8 @@ def test_readers_have_the_memory_in_which_an_archive_is_unpacked(folder):
             raise ConnectionResetError
 
     kept = cache_blobs.Blobs(place, 1, Sending())
-    request = types.SimpleNamespace(if_none_match=(), headers={}, method="GET")
+    client = types.SimpleNamespace(is_closing=lambda: False)
+    request = types.SimpleNamespace(if_none_match=(), headers={}, method="GET", transport=client)
     for window in (20, 25):
         archive = nar.archive(bytes(window) * 100_000)
         data, digest = by_zstd(archive, window), nar.sha256(archive)
@@ -716,7 +840,7 @@ def test_dear_parts_of_archives_leave_some_for_others(folder):
     running, most, order = [], [], []
 
     class Request(dict):
-        method, if_none_match, transport = "GET", None, None
+        method, if_none_match, transport = "GET", None, types.SimpleNamespace(is_closing=lambda: False)
 
         def __init__(self, user, **headers):
             super().__init__(caller=cache_server.Caller(user, None))
@@ -839,7 +963,7 @@ def test_users_take_turns_at_sweeps():
             self.transport = types.SimpleNamespace(is_closing=lambda: is_closing, abort=lambda: None)
 
     async def asked(request):
-        with contextlib.suppress(AttributeError):
+        with contextlib.suppress(AttributeError, cache_room.Left):
             # (no reply can be sent to these)
             await swept.request(request)
 

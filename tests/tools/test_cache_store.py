@@ -15,6 +15,7 @@ import sys
 import termios
 import threading
 import time
+import tracemalloc
 import zlib
 from pathlib import Path
 
@@ -22,7 +23,7 @@ import pytest
 
 import parts
 from nixkeep_dev.testing import nar
-from nixkeep_tools import cache_child, cache_limit, cache_server, cache_sessions, store_size
+from nixkeep_tools import cache_child, cache_limit, cache_lists, cache_server, cache_sessions, cache_shares, store_size
 from nixkeep_tools.cache_turns import Turns
 from parts import body, curl, some_path
 from tests.tools.cached import ask, file_name, record, text
@@ -214,6 +215,37 @@ def test_the_share_of_a_user(unit, folder):
             store.end()
         store.start()
         assert (add("bob", "h")[0], Path(f"{file}.damaged").exists()) == (507, False), "and is whole afterwards"
+
+
+@pytest.mark.parametrize("is_running", [False, True])
+def test_a_list_with_a_damaged_page(is_running, folder):
+    """A page of any list, since the store doesn't depend on one: before a start it is begun anew, and while it is used
+    it has less."""
+    file, count = f"{folder}/shares.db", 2000
+    shares = cache_shares.Shares(file, 1 << 30)
+    for at in range(count):
+        shares.add("ann", f"{at:032}-x", 10)
+    cache_lists.close()
+    good = Path(file).read_bytes()
+    for at in range(4096, len(good), 4096 * 7):
+        Path(file).write_bytes(good)
+        if is_running:
+            shares = cache_shares.Shares(file, 1 << 30)
+            shares.conn.execute("PRAGMA cache_size = 0")
+            shares.conn.execute("PRAGMA shrink_memory")
+        with open(file, "r+b") as damaged:
+            damaged.seek(at)
+            damaged.write(bytes(range(255, 55, -1)))
+        shares = shares if is_running else cache_shares.Shares(file, 1 << 30)
+        assert is_running or (os.path.exists(f"{file}.damaged") and not shares.used["ann"]), at
+        shares.listed([])
+        shares.add("bob", "b", 1)
+        with shares.room("ann", 5, "a"):
+            pass
+        shares.deleted(b"/nix/store/" + b"0" * 32 + b"-x\n")
+        cache_lists.close()
+        for it in ("-wal", "-shm", ".damaged"):
+            Path(file + it).unlink(missing_ok=True)
 
 
 def test_what_counts_for_no_share(unit):
@@ -458,7 +490,7 @@ def test_an_upload_at_the_end_of_a_session(when, folder):
     os.utime(made.file("ann"), (time.time() - 3601,) * 2)
     asyncio.run(made.expire())
     assert ended == ([] if when == "before its turn" else ["DELETE"])
-    assert os.path.exists(made.file("ann")) == (when != "not at all")
+    assert Path(made.file("ann")).exists() == (when != "not at all")
 
 
 @contextlib.asynccontextmanager
@@ -581,6 +613,51 @@ def test_a_client_that_leaves(folder):
         return is_reading, ended, blobs.sending.bytes
 
     assert asyncio.run(run()) == (True, [True], 0), "it isn't read further"
+
+
+@pytest.mark.parametrize("target", ["body", "reply"])
+def test_what_a_client_that_leaves_had(target, folder):
+    """Of a client that has left nothing stays in memory: neither the body that it had sent, nor the rest of its reply.
+    (Python looks for what keeps itself when many objects were made, and these have few and large ones.)"""
+    from nixkeep_tools import cache, cache_http
+
+    size, ended, place, sending = 8 << 20, [], f"{folder}/left", cache_http.Sending(1 << 30, 60)
+
+    async def handler(request):
+        if target == "body":
+            return await cache_http.body(request, 2 * size, 60)
+        answer = cache_http.reply(200, bytes(size))
+        await sending.room(request, answer)
+        return await sending.send(request, answer)
+
+    async def answer(request):
+        try:
+            return await cache.failures(60)(request, handler)
+        finally:
+            ended.append(True)
+
+    async def run():
+        async with serving(answer, place):
+            reader, writer = await asyncio.open_unix_connection(place)
+            length = size + 1 if target == "body" else 0
+            writer.write(f"GET / HTTP/1.1\r\nhost: a\r\ncontent-length: {length}\r\n\r\n".encode())
+            writer.write(bytes(max(0, length - 1)))
+            await (writer.drain() if length else reader.read(100))
+            await asyncio.sleep(0.5)
+            before = tracemalloc.get_traced_memory()[0]
+            writer.close()
+            for _ in range(600):
+                await asyncio.sleep(0 if ended else 0.1)
+        return before, tracemalloc.get_traced_memory()[0]
+
+    gc.disable()
+    tracemalloc.start()
+    try:
+        before, after = asyncio.run(run())
+    finally:
+        tracemalloc.stop()
+        gc.enable()
+    assert (before > size, after < size) == (True, True), (before, after)
 
 
 def not_read_by(pid):

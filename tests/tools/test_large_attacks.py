@@ -19,10 +19,11 @@ import pytest
 
 pytest.importorskip("aiohttp", reason="needs python3-aiohttp (Debian: python3-aiohttp)")
 import parts
+from nixkeep_dev.build.program import HERE
 from nixkeep_dev.testing import nar, stores
 from nixkeep_tools import cache_blobs, cache_http, cache_overview, cache_records, cache_shares, cache_waiting
 from parts import body, some_path
-from tests.tools import cached, large
+from tests.tools import cached, large, servers
 from tests.tools.large import archive_of, is_sound, send_half
 
 pytestmark = pytest.mark.needs("curl", "python3-aiohttp", "python3-zstandard")
@@ -56,6 +57,17 @@ def rng():
 
 
 # ---- the folder of the blobs
+
+
+def test_what_a_terminal_obeys_of_a_hostile_server(folder):
+    """Paths that a server lists are printed without it."""
+    digest = "sha256:" + "0" * 52
+    lines = [f"{it} {digest} 1 {digest} 1\n" for it in ("\x1b]0;title\x07", "\x1b[2J", "\x9b2J", "\u202eright")]
+    with servers.answering(lambda *_: (200, "text/plain", "".join(lines).encode())) as url:
+        words = [f"{HERE}/tools/nixkeep-cache", "verify", "--server", url, "--user", "ann", "--blobs", folder]
+        status, output, errors = servers.ran(words)
+    assert (status, errors) == (1, b"") and b"missing " in output and b"\\x1b[2J" in output
+    assert not output.translate(None, bytes([10, *range(32, 127)]))
 
 
 def starts(team):

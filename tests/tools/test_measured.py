@@ -6,7 +6,7 @@ from pathlib import Path
 import pytest
 
 import parts
-from tests.gate import coverage
+from nixkeep_dev.testing import covered
 
 pytestmark = pytest.mark.needs("python3-coverage")
 # The last lines of a module, after three others.
@@ -21,15 +21,15 @@ def test_a_process_that_ends(how, folder):
     file, text = Path(f"{folder}/tools/it.py"), ["import os", "import resource", "import signal", *ENDS[how]]
     file.parent.mkdir()
     file.write_text("\n".join(text))
-    environment, numbers = coverage.prepare(f"{folder}/measured", folder), {*range(1, len(text) + 1)}
-    with coverage.listening(coverage.place_in(f"{folder}/measured")) as lines:
+    environment, numbers = covered.prepare(f"{folder}/measured", folder), {*range(1, len(text) + 1)}
+    with covered.listening(covered.place_in(f"{folder}/measured")) as lines:
         ran = subprocess.run([sys.executable, file], env=environment, capture_output=True, text=True)
         parts.until("all of its lines", lambda: lines.found.get(str(file)) == numbers, 60)
     assert ran.stderr == ""
-    assert coverage.percents(lines.found, folder) == (100, [("tools/it.py", 100.0)])
+    assert covered.percents(lines.found, folder) == (100, [("tools/it.py", 100.0)])
 
 
 def test_what_ran_in_part(folder):
     file = Path(f"{folder}/it.py")
     file.write_text("import os\nif not os:\n    os = None\n    os = 1\n")
-    assert coverage.percents({str(file): {1, 2}}, folder) == (50, [("it.py", 50.0)])
+    assert covered.percents({str(file): {1, 2}}, folder) == (50, [("it.py", 50.0)])

@@ -21,7 +21,9 @@ LISTED = "systemctl list-units --plain --no-legend --state=active nixkeep@*.serv
 TESTED = ("nixkeep-backup check --db /var/lib/nixkeep/red/store.db --config /etc/nixkeep/red.toml "
           "--server unix:/run/nixkeep/red.socket --unit nixkeep@red.service")
 RESTARTED = "deb-systemd-invoke try-restart nixkeep@red.service"
-STOPPED = "deb-systemd-invoke stop nixkeep@*.socket nixkeep@*.service"
+# A copy that is made would start its server again.
+STOPPED = ["deb-systemd-invoke stop nixkeep-backup@*.service",
+           "deb-systemd-invoke stop nixkeep@*.socket nixkeep@*.service"]
 
 
 class Scripts:
@@ -88,7 +90,7 @@ def test_a_step_back(scripts):
     assert scripts.run("postinst", "abort-upgrade", "1.0.0") == (0, "", [])
 
 
-@pytest.mark.parametrize("words, wanted", [(["remove"], [STOPPED]), (["upgrade", "9.9"], [])])
+@pytest.mark.parametrize("words, wanted", [(["remove"], STOPPED), (["upgrade", "9.9"], [])])
 def test_what_python_compiled_is_removed(scripts, words, wanted):
     made = f"{scripts.room}/lib/nixkeep_tools/__pycache__"
     os.makedirs(made)

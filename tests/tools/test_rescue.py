@@ -22,7 +22,8 @@ from nixkeep_dev.testing import report
 from nixkeep_dev.testing.nar import STORE, archive, derivation, hidden, sha256
 from nixkeep_dev.testing.tables import ALL, Built, put
 from nixkeep_tools import store_file
-from tests.tools.explained import change_bytes, explained, some_store
+from tests.tools.explained import EXPLAIN, change_bytes, explained, some_store
+from tests.tools.servers import ran
 # ---- rescue
 
 
@@ -112,6 +113,22 @@ def test_a_rescue_into_a_folder_that_is_there(folder, path, name):
     _, status, errors = explained("--rescue", str(place), path)
     assert (status, errors) == (1, f"failed: File exists: {place}\n")
     assert not Path(folder, "elsewhere").exists(), "nothing is made through a link"
+
+
+@pytest.mark.parametrize("least, most", [(1, "objects"), (8, "store.toml"), (80, "restore")])
+def test_a_rescue_on_a_full_disk(least, most, folder):
+    """It is a line with the folder. A script that isn't whole has no name, since it would set some roots alone."""
+    built, path, out = Built(), f"{folder}/many.db", f"{folder}/out"
+    base = built.put_source("object", archive(bytes(3000)), [])
+    built.world.permanent.update({f"root-number-{at}": base for at in range(300)})
+    put(path, built.rows(), ALL)
+    words = ["bash", "-c", f'ulimit -f {least}; exec "$@"', "-", EXPLAIN, "--rescue", out, path]
+    status, _, errors = ran(words)
+    if most == "restore":
+        assert (status, errors) == (0, b"") and Path(out, "restore").read_text().count("root-number-") == 300
+    else:
+        assert (status, errors.decode()) == (1, f"failed: File too large: {out}\n")
+    assert Path(out, "restore").exists() == (most == "restore") and Path(out, most).exists()
 
 
 def test_what_a_terminal_obeys(folder):

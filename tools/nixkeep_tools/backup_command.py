@@ -16,7 +16,7 @@ Copies a store into a folder of dated copies, each of which is tested before it 
 while nothing has it open; `check` says before whether its server may be stopped for that. `fetch` copies through a
 running server. `restore` puts a store back from a copy. `before-migration` keeps a file of an earlier schema."""
 EPILOG = """exit statuses: 0 done, 1 failed, 2 usage, 3 refused, 4 denied, 130 interrupted"""
-SECONDS = 3_600
+SECONDS, MOST_SECONDS = 3_600, 1 << 30
 
 
 def parser():
@@ -49,10 +49,17 @@ def add_check(actions):
     made.add_argument("--note", metavar="FILE", help="a file for the server's report, for `copy`")
 
 
+def seconds(text):
+    """A time limit: a number of seconds that a timer can be set to."""
+    if not 1 <= (number := int(text)) <= MOST_SECONDS:
+        raise ValueError
+    return number
+
+
 def add_to(made):
     made.add_argument("--to", required=True, metavar="FOLDER", help="the folder of the copies")
     made.add_argument("--state", metavar="FILE", help="a file for what this run did, and when")
-    made.add_argument("--seconds", type=int, default=SECONDS, metavar="N", help=f"a time limit [{SECONDS}]")
+    made.add_argument("--seconds", type=seconds, default=SECONDS, metavar="N", help=f"a time limit [{SECONDS}]")
 
 
 def add_copy(actions):
@@ -191,7 +198,8 @@ def main(words: list[str]) -> int:
     os.umask(0o077)
     try:
         line = run(parser().parse_args(words[1:]))
-        streams.write([f"{line}\n".encode("utf-8", "backslashreplace")] if line else [])
+        # (names of files are in it, which others may have chosen)
+        streams.write([streams.printable(line).replace("\n", "\\n").encode() + b"\n"] if line else [])
         return 0
     except Stop as stop:
         streams.say(f"nixkeep-backup: {stop.line}")

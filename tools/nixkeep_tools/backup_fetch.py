@@ -64,10 +64,11 @@ def read_roots(text):
 
 
 class Fetch:
-    """A copy from one store, whose caller is trusted, into another one, in which everybody is."""
+    """A copy from one store, whose caller is trusted, into another one, in which everybody is. `file` is that of the
+    other one."""
 
-    def __init__(self, source: objects.Store, target: objects.Store):
-        self.source, self.target = source, target
+    def __init__(self, source: objects.Store, target: objects.Store, file: str):
+        self.source, self.target, self.file = source, target, file
         # The pointers that the source shows as large archives, by the base names of their paths.
         self.pointers = {}
 
@@ -142,6 +143,8 @@ class Fetch:
         archive = self.archive(record)
         if archive is None or paths.sha256([archive]) != record.nar_hash:
             return False
+        # (each time: others may fill the disk meanwhile, and a server may list less than it has)
+        backup_file.demand_room(record.nar_size, self.file)
         pairs = [("path", record.base), ("nar-hash", paths.nar_hash(record.nar_hash))]
         pairs += [("reference", it) for it in record.refs]
         pairs += [(key, it) for key, it in (("deriver", record.deriver), ("ca", record.ca)) if it]
@@ -203,6 +206,8 @@ class Fetch:
         have = {}
         for number in range(1, PASSES + 1):
             before = listed(self.source)
+            if number == 1 and (total := backup_file.TOTAL.search(before.report)):
+                backup_file.demand_room(int(total[2]), self.file)
             large = map(pointers.read_line, before.pointers.splitlines())
             self.pointers = {it.path.rpartition("/")[2]: it for it in large}
             self.copy_objects([it.rpartition("/")[2] for it in before.paths.splitlines()], have)
@@ -237,7 +242,7 @@ def fetch(source: objects.Store, program: str, table: dict, to: str) -> Done:
         child = objects.Child(program, to, config)
         target = objects.Store(child.server(objects.FilePlace(to), {}), "root", source.folder, child)
         try:
-            done = Fetch(source, target).run()
+            done = Fetch(source, target, to).run()
         except ValueError as error:
             raise Stop(f"failed: answer: {source}: it isn't that of a store: {str(error)[:200]}") from None
         finally:

@@ -74,13 +74,19 @@ def open_copy(path):
     return sqlite3.connect(f"file:{store_file.quoted(path)}?mode=rw", uri=True, isolation_level=None)
 
 
-def demand_room(conn, folder):
-    """Raises Stop where a copy of the store of a connection would leave so little room that a store can't go on."""
-    pages, size = (conn.execute(f"PRAGMA {it}").fetchone()[0] for it in ("page_count", "page_size"))
+def demand_room(size: int, path: str) -> None:
+    """Raises Stop where a copy of this size would leave too little room for a store to go on."""
+    folder = os.path.dirname(os.path.abspath(path))
     seen = os.statvfs(folder)
     # (some file systems don't say how large they are)
-    if seen.f_blocks and (free := seen.f_bavail * seen.f_frsize) < pages * size + LEFT:
-        raise Stop(f"failed: room: {folder} has {free} bytes left, too few for a copy of {pages * size} bytes")
+    if seen.f_blocks and (free := seen.f_bavail * seen.f_frsize) < size + LEFT:
+        raise Stop(f"failed: room: {folder} has {free} bytes left, too few for a copy of {size} bytes")
+
+
+def size_of(conn):
+    """The bytes of the file of a connection."""
+    pages, size = (conn.execute(f"PRAGMA {it}").fetchone()[0] for it in ("page_count", "page_size"))
+    return pages * size
 
 
 def copy(path: str, to: str) -> None:
@@ -88,7 +94,7 @@ def copy(path: str, to: str) -> None:
     try:
         create(to)
         with store_file.open_store(path) as conn, contextlib.closing(open_copy(to)) as target:
-            demand_room(conn, os.path.dirname(os.path.abspath(to)))
+            demand_room(size_of(conn), to)
             # (between two parts a signal is seen, such as that of the time limit)
             conn.backup(target, pages=PAGES, progress=lambda *_: None)
     except FileNotFoundError:
@@ -141,7 +147,7 @@ def rows(path: str) -> tuple[int, int]:
 
 def explain(path: str, config: str | None) -> None:
     """Tests all of a file by nixkeep-explain, which changes nothing."""
-    ran([sys.executable, "-B", f"{HERE}/nixkeep-explain", *(["--config", config] if config else []), path], "test")
+    ran([sys.executable, "-BES", f"{HERE}/nixkeep-explain", *(["--config", config] if config else []), path], "test")
 
 
 def reported(path, config, program):
@@ -210,6 +216,7 @@ def keep(words, number):
             raise Stop(f"failed: test: {fresh}: the store has other objects")
         backup_folder.sync(fresh)
         os.rename(fresh, kept)
+        backup_folder.sync(os.path.dirname(os.path.abspath(kept)))
     finally:
         with contextlib.suppress(FileNotFoundError):
             os.unlink(fresh)

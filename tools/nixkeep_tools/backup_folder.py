@@ -56,12 +56,16 @@ def sync(path: str) -> None:
 
 @contextlib.contextmanager
 def locked(folder: str) -> Iterator[None]:
-    """One copy at a time is made in a folder."""
+    """One copy at a time is made in a folder. Nobody else may write there: a file that they put next to the copy could
+    have SQLite write to another one, or delete it."""
     try:
         opened = os.open(folder, os.O_RDONLY | os.O_DIRECTORY)
     except OSError as error:
         raise Stop(f"failed: folder: {folder}: {reason(error)}") from None
     try:
+        seen = os.fstat(opened)
+        if seen.st_uid not in (0, os.geteuid()) or seen.st_mode & 0o022:
+            raise Stop(f"failed: folder: {folder}: other accounts may write there; it has to be your own, of mode 0700")
         fcntl.flock(opened, fcntl.LOCK_EX | fcntl.LOCK_NB)
         yield
     except BlockingIOError:

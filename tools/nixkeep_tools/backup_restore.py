@@ -3,52 +3,26 @@ import argparse
 import contextlib
 import fcntl
 import os
-import shutil
+import re
 import stat
 import time
+from collections.abc import Callable
 from typing import BinaryIO
 
-from . import backup_file, explain_file, stopping, store_file
+from . import backup_file, backup_units, explain_file, stopping, store_file
 from .count_of import count_of
 from .failures import Stop, reason
-
-# What is stopped, in this order: nothing may start the server meanwhile, or copy what isn't whole.
-TIMER, COPY, SOCKET, SERVER = UNITS = [
-    "nixkeep-backup@{}.timer", "nixkeep-backup@{}.service", "nixkeep@{}.socket", "nixkeep@{}.service"]
 
 # What the names of folders begin with that have the files of before. While one is there, nixkeep-cache sweeps nothing.
 ASIDE = "aside-"
 # A store's own file, and a copy that doesn't have that name yet.
 STORE, FRESH = "store.db", "store.new"
-
-
-def state_of(unit):
-    """The state of a unit: `active`, or `activating` for a server that is started again and again."""
-    words = ["sh", "-c", 'systemctl is-active "$1" || true', "sh", unit]
-    return backup_file.ran(words, "unit").strip()
-
-
-def set_unit(what, unit):
-    backup_file.ran(["systemctl", what, unit], "unit")
-
-
-@contextlib.contextmanager
-def stopped(name):
-    """Stops the units of a store, and starts those again that ran, also where something fails meanwhile."""
-    unit = {it: it.format(name) for it in UNITS}
-    ran = {it: state_of(unit[it]) in ("active", "activating", "deactivating") for it in UNITS}
-    # (while a copy is made the server is stopped, and is started at its end)
-    ran[SERVER] = ran[SERVER] or ran[COPY]
-    try:
-        for it in UNITS:
-            if ran[it] or it in (SOCKET, SERVER):
-                set_unit("stop", unit[it])
-        yield
-    finally:
-        with stopping.whole():
-            for it in (SOCKET, SERVER, TIMER):
-                if ran[it]:
-                    set_unit("start", unit[it])
+# The names that a store may have. systemctl takes others, such as `*`, for many units.
+NAME = re.compile(r"[A-Za-z0-9_:.\\-]+")
+# The folder in which each store has a folder of its copies, and the bytes that are copied at once.
+COPIES, PIECE = "nixkeep-backup", 1 << 20
+# How often a name for a folder is tried, which has the second in it.
+TRIES = 20
 
 
 @contextlib.contextmanager
@@ -85,15 +59,16 @@ def opened(folder, within=None):
         os.close(number)
 
 
-def fill(name: str, folder: int, source: BinaryIO) -> None:
-    """Makes a file of what `source` has in an open folder, for the folder's account."""
-    seen = os.fstat(folder)
-    with contextlib.suppress(FileNotFoundError):
-        os.unlink(name, dir_fd=folder)
-    with open(name, "xb", opener=lambda it, flags: backup_file.fresh(it, flags, folder)) as target:
-        shutil.copyfileobj(source, target)
+def fill(folder: int, source: BinaryIO, owner: os.stat_result) -> None:
+    """Makes the file FRESH of what `source` has, in an open folder, for this account."""
+    left = os.fstat(source.fileno()).st_size
+    with open(FRESH, "xb", opener=lambda it, flags: backup_file.fresh(it, flags, folder)) as target:
+        # (whoever may write the copy could have it grow without an end)
+        while left and (piece := source.read(min(left, PIECE))):
+            target.write(piece)
+            left -= len(piece)
         target.flush()
-        os.fchown(target.fileno(), seen.st_uid, seen.st_gid)
+        os.fchown(target.fileno(), owner.st_uid, owner.st_gid)
         os.fsync(target.fileno())
 
 
@@ -143,13 +118,14 @@ def link(names, folder, aside):
             if not is_folder(it, folder):
                 os.link(it, it, src_dir_fd=folder, dst_dir_fd=aside, follow_symlinks=False)
         os.fsync(aside)
+        os.fsync(folder)
     except OSError:
         for it in os.listdir(aside):
             os.unlink(it, dir_fd=aside)
         raise
 
 
-def move_aside(names, folder, aside):
+def move_aside(names: list[str], folder: int, aside: int) -> None:
     """Moves files of a store into another folder, but for the name of `store.db`, which the copy takes over: if the
     machine stops before that, no server begins a new store there, and none opens the file, which has two names."""
     link(names, folder, aside)
@@ -160,48 +136,131 @@ def move_aside(names, folder, aside):
             os.unlink(it, dir_fd=folder)
 
 
-def name_copy(folder, replaced):
-    """Gives the copy the name of the store's file, whether or not there was one. If not, it replaces none: a server may
-    have begun a store meanwhile."""
-    if replaced:
-        return os.rename(FRESH, STORE, src_dir_fd=folder, dst_dir_fd=folder)
-    os.link(FRESH, STORE, src_dir_fd=folder, dst_dir_fd=folder)
-    os.unlink(FRESH, dir_fd=folder)
-
-
-def put(copy: str, folder: str) -> str:
-    """Puts a copy in the place of a store, whose files are moved into a new folder. Returns that folder's name."""
+@contextlib.contextmanager
+def made_aside(folder):
+    """The name and the number of a new folder in an open one. It is gone if putting the copy there fails before files
+    of the store are in it."""
+    for _ in range(TRIES):
+        name = f"{ASIDE}{time.strftime('%Y-%m-%dT%H-%M-%SZ', time.gmtime())}"
+        if not os.path.lexists(f"/proc/self/fd/{folder}/{name}"):
+            break
+        time.sleep(0.1)
+    os.mkdir(name, 0o700, dir_fd=folder)
     try:
-        # (the copy is opened once: nobody can put a link in its place)
-        with opened(folder) as here, store_file.opened(copy) as source:
-            fcntl.flock(here, fcntl.LOCK_EX | fcntl.LOCK_NB)
-            with held(names := files_of(here), here):
-                return f"{folder}/{put_from(source, names, here)}"
+        with opened(name, folder) as number:
+            try:
+                yield name, number
+            except (OSError, MemoryError, Stop, KeyboardInterrupt):
+                with contextlib.suppress(OSError):
+                    os.unlink(FRESH, dir_fd=number)
+                raise
+    except (OSError, MemoryError, Stop, KeyboardInterrupt):
+        with contextlib.suppress(OSError):
+            os.rmdir(name, dir_fd=folder)
+        raise
+
+
+def open_copy(copy):
+    """A copy that is open, and that no server has open. Whatever gets its name meanwhile, this file is read."""
+    try:
+        source = store_file.opened(copy)
+    except OSError as error:
+        raise Stop(f"failed: copy: {copy}: {reason(error)}") from None
+    if (pid := store_file.locker(source)) is None:
+        return source
+    source.close()
+    raise Stop(f"failed: copy: {store_file.Locked(copy, pid)}")
+
+
+def put(copy: str, folder: str, test: Callable[[str], object] = lambda _: None,
+        stopped: Callable = contextlib.nullcontext) -> str:
+    """Puts a copy in the place of a store, whose files are moved into a new folder. Returns that folder's name.
+
+    The copy is first copied into that folder, which nobody else may write, and `test(path)` tests that file. So what is
+    put in place is what was tested, even if others may write the copy. The store's units are stopped by `stopped()`
+    only while the files are exchanged.
+    """
+    try:
+        with open_copy(copy) as source, opened(folder) as here, made_aside(here) as (name, aside):
+            backup_file.demand_room(os.fstat(source.fileno()).st_size, f"{folder}/{FRESH}")
+            fill(aside, source, os.fstat(here))
+            test(f"{folder}/{name}/{FRESH}")
+            with stopped():
+                fcntl.flock(here, fcntl.LOCK_EX | fcntl.LOCK_NB)
+                with held(names := files_of(here), here):
+                    swap(names, here, aside)
+            return f"{folder}/{name}"
     except BlockingIOError:
         raise another(folder) from None
     except OSError as error:
-        raise Stop(f"failed: restore: {os.path.join(folder, error.filename or '')}: {reason(error)}") from None
+        what = error.filename if isinstance(error.filename, str) else ""
+        raise Stop(f"failed: restore: {os.path.join(folder, what)}: {reason(error)}") from None
 
 
-def put_from(source, names, folder):
-    """Puts a copy, which is open, into the open folder of a store, which has files of these names. Returns the name of
-    the folder of what was there."""
-    aside = f"{ASIDE}{time.strftime('%Y-%m-%dT%H-%M-%SZ', time.gmtime())}"
+def swap(names, folder, aside):
+    """Puts FRESH, which is in the folder of what was there, into the open folder of a store, which has files of these
+    names. Where a step of that fails, they are back."""
     replaced = STORE in names and not is_folder(STORE, folder)
-    try:
-        fill(FRESH, folder, source)
-        with stopping.whole():
-            os.mkdir(aside, 0o700, dir_fd=folder)
-            with opened(aside, folder) as moved:
-                move_aside(names, folder, moved)
-            name_copy(folder, replaced)
-            os.fsync(folder)
-    except (OSError, Stop, KeyboardInterrupt):
+    # (where there was no store, it replaces none: a server may have begun one meanwhile)
+    give = os.rename if replaced else os.link
+    with stopping.whole():
+        try:
+            move_aside(names, folder, aside)
+            give(FRESH, STORE, src_dir_fd=aside, dst_dir_fd=folder)
+        except OSError:
+            if replaced:
+                put_back(folder, aside)
+            raise
+        if not replaced:
+            os.unlink(FRESH, dir_fd=aside)
+        os.fsync(folder)
+
+
+def put_back(folder, aside):
+    """Undoes what `move_aside` has done. What can't be put back stays in the other folder."""
+    for it in [it for it in os.listdir(aside) if it != FRESH]:
         with contextlib.suppress(OSError):
-            os.unlink(FRESH, dir_fd=folder)
-            os.rmdir(aside, dir_fd=folder)
-        raise
-    return aside
+            if is_folder(it, aside):
+                os.rename(it, it, src_dir_fd=aside, dst_dir_fd=folder)
+                continue
+            with contextlib.suppress(FileExistsError):
+                os.link(it, it, src_dir_fd=aside, dst_dir_fd=folder, follow_symlinks=False)
+            os.unlink(it, dir_fd=aside)
+
+
+# ---- the command
+
+
+def test(path: str, copy: str, config: str) -> tuple[int, int]:
+    """Tests what is put in the place of a store. Returns its number of objects and their bytes. A failure names the
+    copy that it is from."""
+    try:
+        counted = backup_file.rows(path)
+        backup_file.explain(path, config)
+        return counted
+    except Stop as stop:
+        raise Stop(stop.line.replace(path, copy), stop.status) from None
+
+
+def refuse_other(copy, name):
+    """Raises Stop for a copy in the folder of another store's copies: whoever may read this store could read it."""
+    above, of = os.path.split(os.path.dirname(os.path.realpath(copy)))
+    if os.path.basename(above) == COPIES and of != name:
+        raise Stop(f"failed: copy: {copy}: it is one of the store {of}: if {name} has to be that one, copy the file to "
+                   "another folder first")
+
+
+def refuse_words(words, folder):
+    """Raises Stop for words from which nothing can be put back."""
+    if not NAME.fullmatch(words.name):
+        raise Stop(f"failed: name: {words.name!r} is no name of a store")
+    if not os.path.isdir(folder):
+        raise Stop(f"failed: folder: {folder}: there is none; start nixkeep@{words.name} once, which makes it")
+    if os.path.exists(words.copy) and not os.path.isfile(words.copy):
+        raise Stop(f"failed: copy: {words.copy}: it is no file")
+    if os.path.exists(f"{words.copy}-wal"):
+        raise Stop(f"failed: copy: {words.copy}-wal: a copy is one file, without a log")
+    refuse_other(words.copy, words.name)
 
 
 def restore(words: argparse.Namespace) -> str:
@@ -209,15 +268,13 @@ def restore(words: argparse.Namespace) -> str:
     # (os.path: of what the caller may not look at, or a link that leads to itself, Path raises other errors)
     folder = os.path.realpath(words.folder or f"/var/lib/nixkeep/{words.name}")
     config = words.config or f"/etc/nixkeep/{words.name}.toml"
-    if not os.path.isdir(folder):
-        raise Stop(f"failed: folder: {folder}: there is none; start nixkeep@{words.name} once, which makes it")
-    if os.path.exists(words.copy) and not os.path.isfile(words.copy):
-        raise Stop(f"failed: copy: {words.copy}: it is no file")
-    if os.path.exists(f"{words.copy}-wal"):
-        raise Stop(f"failed: copy: {words.copy}-wal: a copy is one file, without a log")
-    count, size = backup_file.rows(words.copy)
-    backup_file.explain(words.copy, config)
+    refuse_words(words, folder)
+    counted, server = [], backup_units.SERVER.format(words.name)
     stopping.by_signals("restore")
-    with alone(folder), stopped(words.name):
-        aside = put(words.copy, folder)
-    return f"restored {count_of(count, 'object')}, {size} bytes from {words.copy}; the files before are in {aside}"
+    with alone(folder):
+        aside = put(words.copy, folder, lambda path: counted.extend(test(path, words.copy, config)),
+                    lambda: backup_units.stopped(words.name))
+    count, size = counted
+    line = f"restored {count_of(count, 'object')}, {size} bytes from {words.copy}; the files before are in {aside}"
+    is_started = backup_units.state_of(server) in backup_units.RUNS
+    return line if is_started else f"{line}; {server} didn't run, and isn't started"

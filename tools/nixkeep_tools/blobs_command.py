@@ -92,7 +92,7 @@ def verify(said):
     missing = sum(it.startswith("missing") for it in lines)
     total = f"verified {count_of(len(everything), 'blob')} {count_of(sum(there.values()), 'byte')}: {missing} missing, "
     total += f"{len(lines) - missing} damaged, {len({*there} - {*by_name})} that no object names"
-    streams.write([f"{it}\n".encode() for it in [*lines, total]])
+    streams.write(streams.shown([f"{it}\n".encode() for it in [*lines, total]]))
     return FAILED if lines else DONE
 
 

@@ -31,6 +31,8 @@ def reading(name, flags):
 class Folder:
     def __init__(self, folder: str):
         self.where, self.folder, self.lock = folder, folder.rstrip("/") or "/", None
+        # The folders of blobs whose names this process has brought to the disk.
+        self.known = set()
         self.parts = blobs.Parts(f"{self.folder}/incoming")
         self.part = self.parts.part
 
@@ -61,9 +63,10 @@ class Folder:
         folder = Path(file).parent
         with open(part, "rb") as made:
             os.fsync(made.fileno())
-        if not folder.is_dir():
+        if folder not in self.known or not folder.is_dir():
             folder.mkdir(mode=0o700, parents=True, exist_ok=True)
             synced(self.folder)
+            self.known.add(folder)
         try:
             # (a rename would replace what is there)
             os.link(part, file)

@@ -1,6 +1,5 @@
 """A binary cache of Nix over a store's server, on Debian's python3-aiohttp."""
 import asyncio
-import collections
 import contextlib
 import functools
 import logging
@@ -8,6 +7,7 @@ import os
 import resource
 import sqlite3
 import sys
+from collections.abc import Awaitable, Callable
 
 from aiohttp import HttpVersion10, HttpVersion11, web
 from aiohttp.http_exceptions import HttpProcessingError
@@ -15,15 +15,18 @@ from aiohttp.http_exceptions import HttpProcessingError
 from . import blobs, blobs_command, cache_child, cache_health, cache_limit, cache_listening, cache_lists
 from . import cache_metrics, cache_options, cache_origin, cache_signing, overview_source, paths
 from .cache_archives import Archives
+from .cache_at_once import AtOnce, Loop
 from .cache_ending import FINISH, Ending
 from .cache_blobs import Blobs
-from .cache_http import BODY, Answered, Sending, alone, begins, passed, reply, shown
+from .cache_fair import Fair
+from .cache_http import BODY, Answered, Handler, Sending, alone, begins, forget, passed, reply, shown
 from .cache_large import Large
 from .cache_names import Names
 from .cache_overview import Overviews
 from .cache_passing import Passing
 from .cache_pointers import Pointers
 from .cache_records import Bad
+from .cache_room import Left
 from .cache_server import Caller, Port, Server, Unreachable
 from .cache_sessions import Sessions
 from .cache_shares import Shares
@@ -54,7 +57,7 @@ def caller(request, fixed):
     return Caller(users[0], groups[0] if groups else None)
 
 
-def failures(idle):
+def failures(idle: float) -> Callable[[web.Request, Handler], Awaitable[web.StreamResponse]]:
     """What fails is an answer, and a line where the server or the disk failed."""
 
     @web.middleware
@@ -71,9 +74,12 @@ def failures(idle):
             return reply(507, f"{full}")
         except Full:
             return reply(503, "no room for one more archive that waits for its record: try again later\n")
+        except Left:
+            return reply(503, "the client has left\n")
         except TimeoutError:
             return reply(408, f"nothing came for {idle:.0f} seconds\n")
         except (Unreachable, cache_child.Refused, OSError, blobs.Failed, sqlite3.Error) as error:
+            forget(error)
             print(f"nixkeep-cache: {request.method} {request.raw_path[:300]!r}: {error}", file=sys.stderr, flush=True)
             return reply(503 if isinstance(error, (OSError, blobs.Failed, sqlite3.Error)) else 502, f"{shown(error)}\n")
 
@@ -89,6 +95,11 @@ async def framed(request, handler):
     answer = reply(400, "refused: 37 bad-length\n" if is_known else "refused: 36 bad-head\n")
     answer.force_close()
     return answer
+
+
+def caller_of(request, fixed, is_local):
+    """Who asks to read, by the head of a request, or None where it is refused."""
+    return None if is_local and cache_origin.is_rebound(request) else caller(request, fixed)
 
 
 def admission(server, fixed, is_local, monitor):
@@ -110,26 +121,6 @@ def admission(server, fixed, is_local, monitor):
         return reply(denial.status, denial.text) if denial else await handler(request)
 
     return admitted
-
-
-def fair(most):
-    """A user has at most this number of requests at once, since other users need connections, too."""
-    running = collections.Counter()
-
-    @web.middleware
-    async def counted(request, handler):
-        user = getattr(request.get("caller"), "user", None)
-        if running[user] >= most:
-            return reply(429, f"failed: busy {most} requests of {user} are being answered: try again later\n")
-        running[user] += 1
-        try:
-            return await handler(request)
-        finally:
-            running[user] -= 1
-            if not running[user]:
-                del running[user]
-
-    return counted
 
 
 def together(middlewares):
@@ -206,7 +197,8 @@ async def application(said, server, waiting, settings, signing, is_local):
     ending, admitted = Ending(), admission(server, fixed, is_local, said.monitor)
     parts, sessions, watched = parts_of(said, server, waiting, settings, signing, ending.begun)
     most = resource.getrlimit(resource.RLIMIT_NOFILE)[0] // (1 if fixed else PART)
-    middlewares = [ending.counted, watched.watching.observed, alone, framed, failures(said.idle), admitted, fair(most)]
+    fair, watching = Fair(most), watched.watching
+    middlewares = [ending.counted, watching.observed, alone, framed, failures(said.idle), admitted, fair.counted]
     # (a body is what came, as to the server: one that is unpacked ahead of its limits would fill the memory)
     made = web.Application(client_max_size=BODY, middlewares=[together(middlewares)],
                            handler_args={"auto_decompress": False})
@@ -214,6 +206,9 @@ async def application(said, server, waiting, settings, signing, is_local):
     made.cleanup_ctx.extend([begun(server), expiring(waiting, sessions, watched.day)])
     made.on_response_prepare.append(begins)
     made.on_shutdown.append(ending.begin)
+    who = functools.partial(caller_of, fixed=fixed, is_local=is_local)
+    archives = next(it for it in parts if isinstance(it, Archives))
+    asyncio.get_running_loop().at_once = AtOnce(who, server, archives, watching, fair, ending)
     return made
 
 
@@ -291,7 +286,7 @@ def main(words: list[str] | None = None) -> None:
         return await application(said, server, waiting, settings, signing, is_local)
 
     try:
-        web.run_app(start(), **where, print=None, access_log=None, shutdown_timeout=FINISH)
+        web.run_app(start(), **where, print=None, access_log=None, shutdown_timeout=FINISH, loop=Loop())
     except (OSError, blobs.Failed) as error:
         sys.exit(f"nixkeep-cache: {error}")
     finally:

@@ -29,6 +29,7 @@ ARCHIVE = re.compile(rf"/nar/({DIGITS}{{52}})/({DIGITS}{{32}}-[0-9A-Za-z+._?=-]+
 # None is `public`: who gets it has logged in, and a cache of others on the way gives it to nobody else.
 MINUTE = "max-age=60"
 BYTES = "application/octet-stream"
+RECORD_KIND = "text/x-nix-narinfo"
 
 
 def hash_of(record):
@@ -71,6 +72,11 @@ class Archives:
         text += f"LargeFrom: {self.large.least}\n" if self.large else ""
         return reply(200, text, "text/x-nix-cache-info", MINUTE)
 
+    def held(self, digits: str) -> bytes | None:
+        """The text of a record that is in memory."""
+        base = self.names.known(digits)
+        return self.recent.text(base) if base else None
+
     async def record(self, request: web.Request, digits: str) -> web.StreamResponse:
         """A record, whose archive is at an address with its hash."""
         caller = request["caller"]
@@ -83,7 +89,7 @@ class Archives:
             return reply(404, "no such path\n")
         # (by HEAD a client learns what it has to upload, which the server says)
         if request.method == "GET" and (text := self.recent.text(base)):
-            return reply(200, text, "text/x-nix-narinfo", MINUTE)
+            return reply(200, text, RECORD_KIND, MINUTE)
         now = self.recent.now()
         answer = await self.server.ask(caller, "GET", f"/info/{base}")
         if answer.status != 200:
@@ -92,11 +98,11 @@ class Archives:
         if failed is not None:
             return failed
         if text:
-            return reply(200, self.signing.signed(text), "text/x-nix-narinfo", MINUTE, vary="user-agent")
+            return reply(200, self.signing.signed(text), RECORD_KIND, MINUTE, vary="user-agent")
         url = f"URL: nar/{hash_of(answer.text)}/{base}".encode()
         text = self.signing.signed(re.sub(rb"^URL: .*$", lambda _: url, answer.text, count=1, flags=re.M))
         self.recent.add(base, text, now)
-        return reply(200, text, "text/x-nix-narinfo", MINUTE)
+        return reply(200, text, RECORD_KIND, MINUTE)
 
     async def archive(self, request: web.Request, digest: str, base: str) -> web.StreamResponse:
         """An archive, if the object has this hash now. A cache that has it asks by `if-none-match`."""

@@ -18,10 +18,10 @@ from .blob_packing import Packed
 from .blob_reading import Damaged, Gone
 from .cache_ending import LAST, LOOK
 from .cache_counts import Count
-from .cache_http import Sending, of_client, reply, shown
+from .cache_http import Sending, forget, of_client, reply, shown
 from .cache_places import Places
 from .cache_records import Bad
-from .cache_room import Held
+from .cache_room import Held, demand_client
 from .pointers import Pointer
 
 # The archives that come at once, those of one user, those that are left for users who have none, and the threads that
@@ -203,6 +203,7 @@ class Blobs:
         given = blob_reading.pieces(self.place, name, pointer, form, start, end)
         answer, is_plain = web.StreamResponse(status=206 if is_part else 200, headers=head), form == "none"
         async with self.dear.taken(request["caller"].user) if start and is_plain else contextlib.nullcontext():
+            demand_client(request)
             return await self.streamed(request, given, answer, name if is_plain else None)
 
     async def streamed(self, request: web.Request, given: Iterator[bytes], answer: web.StreamResponse,
@@ -228,8 +229,9 @@ class Blobs:
             await self.pieces(request, answer, piece, given, held)
             await answer.write_eof()
             self.sent.number += 1
-        except (ConnectionError, TimeoutError):
+        except (ConnectionError, TimeoutError) as gone:
             # (the client has closed, or takes nothing: no reply can reach it)
+            forget(gone)
             abort(request.transport)
         except (Gone, Damaged, blobs.Failed, OSError, EOFError) as error:
             self.sent.failed += 1

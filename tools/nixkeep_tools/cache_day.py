@@ -21,6 +21,13 @@ def empty(since):
     return {"since": since, "sums": dict.fromkeys(SUMS, 0), "slowest": 0, "routes": {}, "users": {}}
 
 
+def sums_of(found, name):
+    """The sums of a route or of a user, which begin with the first request."""
+    if name not in found:
+        found[name] = dict.fromkeys(SUMS, 0)
+    return found[name]
+
+
 def is_part(it):
     """Whether a part that was read is one: this file is no store, and may have been cut off."""
     sums = [it.get("sums"), *it.get("routes", {}).values(), *it.get("users", {}).values()]
@@ -54,11 +61,11 @@ class Day:
         is_lookup = seen.route == "record" and is_read
         values = (1, int(not is_read), int(seen.status >= 500), seen.received, seen.sent, seen.seconds,
                   int(is_lookup and seen.status == 200), int(is_lookup and seen.status == 404))
+        added = [(key, value) for key, value in zip(SUMS, values) if value]
         user = caller.user if caller else "-"
         user = user if user in part["users"] or len(part["users"]) < USERS else OTHERS
-        for sums in (part["sums"], part["routes"].setdefault(seen.route, dict.fromkeys(SUMS, 0)),
-                     part["users"].setdefault(user, dict.fromkeys(SUMS, 0))):
-            for key, value in zip(SUMS, values):
+        for sums in (part["sums"], sums_of(part["routes"], seen.route), sums_of(part["users"], user)):
+            for key, value in added:
                 sums[key] += value
         part["slowest"] = max(part["slowest"], seen.seconds)
 

@@ -6,6 +6,7 @@ import itertools
 from aiohttp import web
 
 from .cache_http import Handler
+from .cache_room import is_gone
 
 # The seconds in which requests that have come are answered, which an exchange with the server may take, and those in
 # which a client that has just connected sends its request.
@@ -45,10 +46,17 @@ class Ending:
         if not self.running:
             self.is_idle.set()
 
+    def leave_gone(self) -> None:
+        """Waits no more for clients that have left. A user may have thousands of these."""
+        for key, it in [*self.running.items()]:
+            if is_gone(it):
+                self.left(key)
+
     async def begin(self, _: web.Application) -> None:
         """Waits for what is on its way. aiohttp would cut off a body that hasn't come whole."""
         self.begun.set()
         await asyncio.sleep(LINGER)
+        self.leave_gone()
         cutting = asyncio.ensure_future(self.cut_slow())
         with contextlib.suppress(TimeoutError):
             async with asyncio.timeout(FINISH):
@@ -61,6 +69,7 @@ class Ending:
         for look in itertools.count(1):
             before = {key: moved(it) for key, it in self.running.items()}
             await asyncio.sleep(LOOK)
+            self.leave_gone()
             for key, it in [*self.running.items()]:
                 is_slow = it.get("waits") and moved(it) - before.get(key, 0) < LEAST
                 if it.transport and (is_slow or look >= LAST and "sent" in it):

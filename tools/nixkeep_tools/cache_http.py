@@ -54,6 +54,12 @@ def passed(answer: Reply, kind: str | None = None, keep: str = "no-store") -> we
     return reply(200, answer.text, kind or answer.kind, keep)
 
 
+def forget(error: BaseException) -> None:
+    """Lets go of what the frames of an error have, such as a body. aiohttp keeps the error of a client that has left
+    with its request, so the two would keep each other until Python looks for such, which may be much later."""
+    error.__traceback__ = None
+
+
 async def begins(request: web.Request, answer: web.StreamResponse) -> None:
     """Remembers which reply to a request has begun."""
     request["begun"] = answer
@@ -70,11 +76,6 @@ async def alone(request: web.Request, handler: Handler) -> web.StreamResponse:
               "came", file=sys.stderr, flush=True)
         request.transport.abort()
     return begun
-
-
-def is_gone(request: web.Request) -> bool:
-    """Whether the client of a request has closed its connection, which doesn't end the request."""
-    return not request.transport or request.transport.is_closing()
 
 
 @contextlib.asynccontextmanager
@@ -158,8 +159,9 @@ class Sending(Room):
                     await sent.write(text[at : at + PIECE])
                 request["sent"] = at
                 held.moved()
-        except (ConnectionError, TimeoutError):
+        except (ConnectionError, TimeoutError) as gone:
             # (the client has closed, or takes nothing: no reply can reach it)
+            forget(gone)
             if transport:
                 transport.abort()
         return sent

@@ -10,10 +10,10 @@ from . import blob_reading, cache_changes, cache_records, paths, pointers
 from .blob_packing import Packed
 from .cache_archives import BYTES, DIGITS
 from .cache_blobs import Blobs, missing
-from .cache_http import BODY, PIECE, READ, Answered, Route, is_gone, passed, pieces, reply
+from .cache_http import BODY, PIECE, READ, Answered, Route, passed, pieces, reply
 from .cache_pointers import Pointers
 from .cache_records import Bad
-from .cache_room import Held
+from .cache_room import Held, demand_client
 from .cache_server import Caller, Reply
 from .cache_stored import Stored
 from .cache_turns import Turns
@@ -256,6 +256,7 @@ class Large:
         given = blob_reading.pieces(self.blobs.place, blob, pointer, "none")
         answer = web.StreamResponse(headers={"content-type": BYTES})
         async with self.blobs.dear.taken(request["caller"].user):
+            demand_client(request)
             return await self.blobs.streamed(request, blob_reading.as_xz(given), answer, blob)
 
     async def listing(self, request: web.Request) -> web.StreamResponse:
@@ -263,8 +264,7 @@ class Large:
         caller = request["caller"]
         # (one is made at a time, and users take turns: each has the names of all objects in memory)
         async with self.turns.turn(caller.user):
-            if is_gone(request):
-                return reply(503, "the client has left\n")
+            demand_client(request)
             found = await self.pointers.among(caller, await self.pointers.listed(caller))
         lines = [f"{it.path} {paths.nar_hash(it.nar_hash)} {it.nar_size} {paths.nar_hash(it.file_hash)} {it.file_size}"
                  for _, it in sorted(found.items())]

@@ -6,7 +6,8 @@ import re
 from aiohttp import web
 
 from . import nar
-from .cache_http import READ, Answered, is_gone, passed, reply
+from .cache_http import READ, Answered, passed, reply
+from .cache_room import demand_client
 from .cache_server import Server
 from .cache_turns import Turns
 
@@ -41,8 +42,7 @@ class Listings:
         if not match or request.method not in READ:
             return
         async with self.turns.turn(caller.user):
-            if is_gone(request):
-                raise Answered(reply(503, "the client has left\n"))
+            demand_client(request)
             answer = await self.server.ask(caller, "GET", f"/nar/{match[1]}")
             if answer.status != 200:
                 # (the server says the same of a listing)

@@ -45,6 +45,9 @@ def connected(file, table):
         conn.execute("PRAGMA journal_mode = WAL")
         conn.execute("PRAGMA synchronous = NORMAL")
         conn.execute(f"CREATE TABLE IF NOT EXISTS {table}")
+        # (else a damaged page would fail what needs it, each time)
+        if (said := conn.execute("PRAGMA quick_check(1)").fetchone()) != ("ok",):
+            raise sqlite3.DatabaseError(" ".join(said[0].split()))
         OPENED.append(conn)
         return conn
     except sqlite3.Error:
@@ -57,6 +60,15 @@ def close() -> None:
     while OPENED:
         with contextlib.suppress(sqlite3.Error):
             OPENED.pop().close()
+
+
+def rows(conn: sqlite3.Connection, statement: str, values: tuple = ()) -> list[tuple]:
+    """What a list has. One that can't be read has nothing: a line says so, and the next start begins it anew."""
+    try:
+        return conn.execute(statement, values).fetchall()
+    except sqlite3.Error as error:
+        warn(f"a list can't be read: {error}")
+        return []
 
 
 def add(conn: sqlite3.Connection, statement: str, row: tuple) -> bool:

@@ -30,6 +30,10 @@ class Names:
                 return None, failed
         return self.bases.get(digits), None
 
+    def known(self, digits: str) -> str | None:
+        """The first base name with these digits, where that is known without a listing."""
+        return self.bases.get(digits) if self.connection == self.server.connections else None
+
     async def list(self, caller: Caller) -> Reply | None:
         """Lists the paths. Returns the reply of a server that doesn't, or None."""
         reply = await self.server.ask(caller, "GET", "/paths")

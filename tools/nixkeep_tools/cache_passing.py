@@ -5,11 +5,11 @@ from collections.abc import Awaitable, Callable
 from aiohttp import web
 
 from . import cache_changes
-from .cache_http import BODY, SMALL, Route, Sending, body, is_gone, passed, reply
+from .cache_http import BODY, SMALL, Route, Sending, body, passed, reply
 from .cache_limit import Limit
 from .cache_listings import Listings
 from .cache_names import Names
-from .cache_room import Room
+from .cache_room import Room, demand_client
 from .cache_server import DELETES, Caller, Reply, Request, Server
 from .cache_sessions import Sessions, target as session_of
 from .cache_shares import Shares
@@ -70,7 +70,8 @@ class Passing:
         if not ALL.fullmatch(made.target):
             return await self.roomy(request, made)
         async with self.turns.turn(made.caller.user):
-            return reply(503, "the client has left\n") if is_gone(request) else await self.roomy(request, made)
+            demand_client(request)
+            return await self.roomy(request, made)
 
     async def roomy(self, request, made):
         answer = passed(await self.answered(made))

@@ -2,12 +2,30 @@
 import asyncio
 import collections
 import contextlib
+import itertools
 from collections.abc import AsyncIterator
 
 from aiohttp import web
 
 # The seconds after which a client can lose its room to another user's, and those between two looks at that.
 GRACE, LOOK = 5, 1
+# The clients of a user that are looked at among those that wait. A user may have thousands.
+AHEAD = 8
+
+
+class Left(Exception):
+    """The client of a request that waited has closed its connection."""
+
+
+def is_gone(request: web.Request) -> bool:
+    """Whether the client of a request has closed its connection, which doesn't end the request."""
+    return not request.transport or request.transport.is_closing()
+
+
+def demand_client(request: web.Request) -> None:
+    """Raises Left where the client of a request has closed its connection: nothing more is done for it."""
+    if is_gone(request):
+        raise Left
 
 
 class Held:
@@ -37,23 +55,32 @@ class Room:
     waits, hold up other users."""
 
     def __init__(self, most: int):
-        self.most, self.bytes, self.waiting, self.held = most, 0, [], []
+        self.most, self.bytes, self.held = most, 0, []
+        # Those that wait, by users, in the order in which they came.
+        self.waiting = {}
 
     async def take(self, request: web.Request, size: int) -> Held:
-        """Waits until there is room for bytes, which are in memory until `give`. Returns the Held."""
+        """Waits until there is room for bytes, which are in memory until `give`. Returns the Held. Raises Left."""
         wanted = Held(request, size)
-        self.waiting.append(wanted)
+        self.waiting.setdefault(wanted.user, {})[wanted] = None
         self.grant()
         try:
-            while wanted in self.waiting:
-                self.evict(wanted)
+            while not wanted.granted.is_set():
+                if wanted in self.first(wanted.user) and not is_gone(request):
+                    self.evict(wanted)
                 with contextlib.suppress(TimeoutError):
                     async with asyncio.timeout(LOOK):
                         await wanted.granted.wait()
+                        break
+                demand_client(request)
         except BaseException:
             self.give(wanted)
             raise
         return wanted
+
+    def first(self, user: str | None) -> list[Held]:
+        """The first that wait of a user's."""
+        return [*itertools.islice(self.waiting.get(user, ()), AHEAD)]
 
     @contextlib.asynccontextmanager
     async def taken(self, request: web.Request, size: int, is_safe: bool = False) -> AsyncIterator[Held | None]:
@@ -72,9 +99,16 @@ class Room:
         if held in self.held:
             self.held.remove(held)
             self.bytes -= held.size
-        elif held in self.waiting:
-            self.waiting.remove(held)
+        else:
+            self.leave(held)
         self.grant()
+
+    def leave(self, held: Held) -> None:
+        """Says that one waits no more."""
+        mine = self.waiting.get(held.user, {})
+        mine.pop(held, None)
+        if not mine:
+            self.waiting.pop(held.user, None)
 
     def resize(self, held: Held, size: int) -> None:
         """Says how many bytes it is that are held. They may be more than there is room for."""
@@ -93,11 +127,11 @@ class Room:
     def grant(self) -> None:
         """Gives room to those that wait, as far as there is some."""
         used = self.used(self.held)
-        while found := [it for it in self.waiting if self.is_within_share(it, used)]:
+        while found := [it for user in self.waiting for it in self.first(user) if self.is_within_share(it, used)]:
             first = min(found, key=lambda it: used[it.user])
             if self.bytes and self.bytes + first.size > self.most:
                 return
-            self.waiting.remove(first)
+            self.leave(first)
             self.held.append(first)
             self.bytes += first.size
             used[first.user] += first.size

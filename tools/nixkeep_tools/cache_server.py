@@ -227,6 +227,10 @@ class Server:
         await self.place.end()
         self.close()
 
+    def is_admitted(self, caller: Caller) -> bool:
+        """Whether a caller may connect, and that is known without asking."""
+        return self.is_open() and self.denials.get(caller, caller) is None
+
     async def denial(self, caller: Caller) -> Reply | None:
         """The reply that denies this caller to connect, or None. A server reads its configuration once, so one answer
         is good as long as the connection."""

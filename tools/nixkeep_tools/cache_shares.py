@@ -7,6 +7,8 @@ from . import cache_lists, cache_records
 from .cache_limit import Full
 from .cache_server import bases_in
 
+SUMS = "SELECT user, sum(bytes) FROM added GROUP BY user"
+
 
 class Shares:
     """A list of who added which object first, in a file of its own. It has blobs, too, by their names: those that no
@@ -21,7 +23,7 @@ class Shares:
         self.count()
 
     def count(self) -> None:
-        self.used = collections.Counter(dict(self.conn.execute("SELECT user, sum(bytes) FROM added GROUP BY user")))
+        self.used = collections.Counter(dict(cache_lists.rows(self.conn, SUMS)))
 
     @contextlib.contextmanager
     def room(self, user: str, size: int, blob: str | None = None) -> Iterator[None]:
@@ -40,8 +42,8 @@ class Shares:
             self.coming[user] -= size
 
     def bytes_of(self, base: str | None, user: str) -> int:
-        found = self.conn.execute("SELECT bytes FROM added WHERE base = ? AND user = ?", (base, user)).fetchone()
-        return found[0] if found else 0
+        asked = "SELECT bytes FROM added WHERE base = ? AND user = ?"
+        return sum(size for (size,) in cache_lists.rows(self.conn, asked, (base, user)))
 
     def added(self, user: str, text: bytes, size: int) -> None:
         """Follows the reply to an add: a path. One that was there before stays that of its user."""
@@ -57,7 +59,7 @@ class Shares:
         self.drop([*bases_in(text)])
 
     def bases(self) -> list[str]:
-        return [it for (it,) in self.conn.execute("SELECT base FROM added")] if self.conn else []
+        return [it for (it,) in cache_lists.rows(self.conn, "SELECT base FROM added")] if self.conn else []
 
     def blobs(self) -> set[str]:
         """The names of the blobs that are counted."""
@@ -74,7 +76,7 @@ class Shares:
             return
         bases, asked = {*bases}, "SELECT user, bytes FROM added WHERE base = ?"
         # (a list may be long, and a deletion of one path takes one row of it)
-        gone = [row for it in bases for row in self.conn.execute(asked, (it,))]
+        gone = [row for it in bases for row in cache_lists.rows(self.conn, asked, (it,))]
         if cache_lists.delete(self.conn, "DELETE FROM added WHERE base = ?", [(it,) for it in bases]):
             for user, size in gone:
                 self.used[user] -= size

@@ -138,7 +138,8 @@ class Signing:
         kept = [self.key.sign(message)] if self.key else []
         if self.conn:
             base, digest = record["StorePath"].rpartition("/")[2], paths.sha256([message])
-            rows = self.conn.execute("SELECT text FROM signature WHERE base = ? AND digest = ?", (base, digest))
+            asked = "SELECT text FROM signature WHERE base = ? AND digest = ?"
+            rows = cache_lists.rows(self.conn, asked, (base, digest))
             kept += [it for (it,) in rows if it not in kept and it.partition(":")[0] in self.trusted]
         return text + "".join(f"Sig: {it}\n" for it in kept).encode()
 
@@ -175,8 +176,8 @@ class Signing:
     def listed(self, bases: Iterable[str]) -> None:
         """Follows a listing of all paths: what was deleted elsewhere has no signature."""
         if self.conn:
-            there = {*bases}
-            self.drop([it for (it,) in self.conn.execute("SELECT DISTINCT base FROM signature") if it not in there])
+            there, rows = {*bases}, cache_lists.rows(self.conn, "SELECT DISTINCT base FROM signature")
+            self.drop([it for (it,) in rows if it not in there])
 
     def drop(self, bases: Iterable[str]) -> None:
         rows = [(it,) for it in bases]

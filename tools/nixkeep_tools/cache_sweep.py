@@ -12,8 +12,9 @@ from . import paths
 from .backup_restore import ASIDE
 from .blobs import Blob, Failed
 from .cache_blobs import Blobs, abort, say
-from .cache_http import Route, body, is_gone, of_client, reply
+from .cache_http import Route, body, of_client, reply
 from .cache_pointers import Pointers
+from .cache_room import demand_client
 from .cache_server import Caller
 from .cache_shares import Shares
 from .cache_turns import Turns
@@ -54,8 +55,7 @@ class Sweep:
         grace, answer = max(self.grace, int(match[2] or 0)), web.StreamResponse(headers={"content-type": "text/plain"})
         # (users take turns, and nothing is done for those who have left)
         async with self.turns.turn(request["caller"].user):
-            if is_gone(request):
-                return answer
+            demand_client(request)
             lines = self.lines(request["caller"], grace, bool(match[3]))
             first = await anext(lines)
             await answer.prepare(request)

@@ -90,11 +90,12 @@ class Uploads:
         """The reply to an import of an archive that waits and that the store itself keeps."""
         data = self.waiting.read(name)
         archive = await asyncio.get_running_loop().run_in_executor(None, cache_records.unpacked, name, data)
+        del data
         if self.large:
             self.large.refuse_pointer(b"\nca: " in head, base, archive)
         given = head + archive
         # (so that one copy is in memory)
-        del data, archive
+        del archive
         return await self.imported(caller, base, given)
 
     async def imported(self, caller: Caller, base: str, given: bytes, size: int | None = None,

@@ -51,6 +51,8 @@ class Watching:
             self.running -= 1
             # (what came, and not what the client said)
             seconds, received = time.monotonic() - began, getattr(request.content, "total_bytes", 0)
-            seen = Seen(request, answer, route_of(request.raw_path), status, received, sent, seconds)
-            for it in self.observers:
-                it(seen)
+            self.saw(Seen(request, answer, route_of(request.raw_path), status, received, sent, seconds))
+
+    def saw(self, seen: Seen) -> None:
+        for it in self.observers:
+            it(seen)

@@ -87,7 +87,10 @@ def nothing_to_rescue(file):
 def print_rescue(folder, file, examined):
     if not examined.names or not examined.objects.objects:
         raise nothing_to_rescue(file)
-    rescued = explain_rescue.rescue(folder, file, examined)
+    try:
+        rescued = explain_rescue.rescue(folder, file, examined)
+    except OSError as error:
+        raise Stopped(f"failed: {error.strerror}: {error.filename or folder}", FAILED) from None
     what = f"{count_of(rescued.objects, 'object')}, {count_of(rescued.roots, 'root')}"
     say(f"{folder}: {what}; sh {folder}/restore NEW.db makes a store of them")
     for what, why in rescued.left_out:

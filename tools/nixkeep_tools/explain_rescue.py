@@ -183,11 +183,13 @@ def rescue(folder: str, file: str, examined: Examined) -> Rescued:
     write_imports(folder, imported, objects, store)
     with open(f"{folder}/store.toml", "x") as out:
         out.write(f'store-dir = "{store}"\n')
-    with open(f"{folder}/restore", "x") as out:
+    # (a disk may fill: the script has its name once it is whole)
+    with open(f"{folder}/restore.new", "x") as out:
         # (no file name ends the comment that it is in)
         out.write(SCRIPT.format(file=ascii(file), count=len(imported)))
         out.writelines(it + "\n" for it in ["", "# The roots, each set by its owner.", *root_commands(roots, store)])
-    os.chmod(f"{folder}/restore", 0o700)
+    os.chmod(f"{folder}/restore.new", 0o700)
+    os.rename(f"{folder}/restore.new", f"{folder}/restore")
     count = sum(len(found) for table, found in roots.items() if table != "profile")
     lost = [(shown("object", (it,)), why) for it, why in sorted(left_out.items())]
     return Rescued(len(imported), count, [*lost, *left_roots])

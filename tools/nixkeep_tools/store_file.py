@@ -179,7 +179,7 @@ def is_schema(text: str) -> bool:
 
 def quoted(path: str) -> str:
     """A path as it is written after `file:` in a URI of SQLite."""
-    return urllib.parse.quote(str(Path(path).absolute()))
+    return urllib.parse.quote(os.fsencode(Path(path).absolute()))
 
 
 def connect(path):
