@@ -3,24 +3,26 @@ three, without its cache and with it.
 
   alone       nixkeep-cache without nginx, next to a server on the same aiohttp that answers everything at once; each
               record has been asked for once before, so all are in its memory
-  one, three  how many copies there are
+  one, three  how many copies there are; each has been asked for each record once before
 
-Each copy has a server and a nixkeep-cache of its own. nginx asks them as in examples/team, with a connection for each
-request at a Unix socket, keeps what it has as there, and asks whether the reader may connect. 64 clients of wrk ask for
-records and archives of 10,000 objects in turn: first without a cache, then with all of them in nginx's cache, next to
-nginx that has them as files, then for archives of which nginx asks every two seconds whether they are still there, and
-last for records that are kept for two seconds, while the servers of the stores are stopped for ten seconds. Prints
-requests a second, the 50th and the 99th percentile, replies that weren't 200, and the processor time of the servers
-meanwhile. Needs the Debian packages nginx-light, wrk and python3-aiohttp; all is skipped where one is missing, and it
-says so. There is no TLS and no password: these cost nginx, not the store. With --quick, there are 1,000 objects, and
-each run takes two seconds.
+Each copy has a server and a nixkeep-cache of its own. nginx has the configuration of examples/team, with its log and
+its limits, which are high enough here for one address. 64 clients of wrk ask for records and archives of 10,000
+objects in turn: first without a cache, then with all of them in nginx's cache, next to the same nginx that has them as
+files, then for archives of which nginx asks every two seconds whether they are still there, and last for records that
+are kept for two seconds, while the servers of the stores are stopped for ten seconds. Prints requests a second, the
+50th and the 99th percentile, replies that weren't 200, and the processor time of the servers meanwhile. Needs the
+Debian packages nginx-light, wrk and python3-aiohttp; all is skipped where one is missing, and it says so. There is no
+TLS and no password: these cost nginx, not the store. With --quick, there are 1,000 objects, and each run takes two
+seconds.
 """
 import contextlib
 import http.client
 import os
 import random
 import shutil
+import socket
 import sqlite3
+import sys
 import tempfile
 import threading
 import time
@@ -30,7 +32,7 @@ from pathlib import Path
 import parts
 from nixkeep_dev.bench.figures import limit, main, note, put, skipped, title, versus
 from nixkeep_dev.bench.load import Load
-from nixkeep_dev.bench.nginx import nginx
+from nixkeep_dev.bench.nginx import of_team
 from nixkeep_dev.bench.serving import Serving, processor_of
 from nixkeep_dev.testing import nar, report, stores
 from nixkeep_dev.testing.http_messages import free_port
@@ -39,14 +41,8 @@ AWAY, CLIENTS = 10, 64
 # The least requests a second of nixkeep-cache alone, the least part of what nginx does with files, and how many times
 # as long as half of the clients one in a hundred may wait.
 ALONE, OF_FILES, FAIR = 6000, 0.8, 5
-COPIES = """upstream copies {{ {copies} }}
-    proxy_cache_path kept levels=1:2 keys_zone=kept:20m max_size=10g use_temp_path=off;"""
-CACHED = """proxy_http_version 1.1; proxy_set_header store-user reader; auth_request /may-connect;
-        proxy_cache {zone}; proxy_cache_key $request_uri; proxy_cache_lock on; proxy_cache_revalidate on;
-        proxy_ignore_headers cache-control; proxy_cache_valid 200 {kept}; proxy_pass http://copies; }}
-    location = /may-connect {{ internal; proxy_cache kept; proxy_cache_key may-connect; proxy_cache_valid 200 403 1m;
-        proxy_ignore_headers cache-control; proxy_pass_request_body off; proxy_set_header content-length "";
-        proxy_set_header store-user reader; proxy_pass http://copies/nix-cache-info;"""
+# What a client says: the name of the host, as wrk writes it, and of the user.
+SAYS = {"Host": "red.example.org", "store-user": "reader", "authorization": "Basic cmVhZGVyOng="}
 # A server on aiohttp with one handler, which has nothing to do: the most that a server on it can reach.
 BARE = """
 import sys
@@ -58,7 +54,7 @@ web.run_app(app, host="127.0.0.1", port=int(sys.argv[1]), print=None, access_log
 """
 # Each thread of wrk begins elsewhere in the list.
 LUA = """
-wrk.headers["store-user"] = "reader"
+{says}
 local targets, at, threads = {{}}, 0, 0
 for line in io.lines("{file}") do targets[#targets + 1] = line end
 function setup(thread) thread:set("first", threads * math.floor(#targets / 2)); threads = threads + 1 end
@@ -75,7 +71,8 @@ def processor(copies):
 def asked(folder, port, targets, seconds):
     """A run of wrk, which asks for these in turn."""
     Path(f"{folder}/targets").write_text("".join(f"{target}\n" for target in targets))
-    Path(f"{folder}/ask.lua").write_text(LUA.format(file=f"{folder}/targets"))
+    says = "".join(f'wrk.headers["{key}"] = "{value}"\n' for key, value in SAYS.items())
+    Path(f"{folder}/ask.lua").write_text(LUA.format(file=f"{folder}/targets", says=says))
     return Load(port, clients=CLIENTS, seconds=seconds, script=f"{folder}/ask.lua")
 
 
@@ -95,20 +92,35 @@ def show(what, load, seconds, least=None, is_fair=True, peer=None):
     limit(f"{what}: processor time of the servers", seconds, None)
 
 
-def cached(folder, copies, kept, zone):
-    """nginx with an empty cache, as the proxy of the copies."""
-    places = " ".join(f"server unix:{cache.place};" for _, cache in copies)
-    return nginx(folder, CACHED.format(zone=zone, kept=kept), COPIES.format(copies=places), 2)
+def places(copies):
+    return [cache.place for _, cache in copies]
 
 
-def fill(port, targets, folder=None):
-    """Asks for each target once, so that nginx has all of them. Writes each reply as a file below the folder."""
+def connection_to(place):
+    """A connection of a client to a port of this machine, or to a Unix socket."""
+    connection = http.client.HTTPConnection("127.0.0.1", None if isinstance(place, str) else place)
+    if isinstance(place, str):
+        connection.sock = socket.socket(socket.AF_UNIX)
+        connection.sock.connect(place)
+    return connection
+
+
+def fill(place, targets, folder=None):
+    """Asks for each target once, so that nginx or nixkeep-cache has all of them. Writes each reply as a file below the
+    folder."""
 
     def ask(some):
-        connection = http.client.HTTPConnection("127.0.0.1", port)
+        connection = connection_to(place)
         for it in some:
-            connection.request("GET", it, headers={"store-user": "reader"})
-            text = connection.getresponse().read()
+            # (as wrk asks, since what is kept depends on it)
+            connection.putrequest("GET", it, skip_host=True, skip_accept_encoding=True)
+            for key, value in SAYS.items():
+                connection.putheader(key, value)
+            connection.endheaders()
+            reply = connection.getresponse()
+            text = reply.read()
+            if reply.status != 200:
+                sys.exit(f"{it}: {reply.status} {text[:300]}")
             if folder:
                 file = Path(f"{folder}{it}")
                 file.parent.mkdir(parents=True, exist_ok=True)
@@ -128,26 +140,26 @@ def targets_of(file):
 
 def measured(folder, copies, wanted, seconds):
     for what, targets in wanted.items():
-        for how, zone in (("no cache", "off"), ("all in nginx's cache", "kept")):
-            with cached(folder, copies, "1h", zone) as front:
-                fill(front.port, targets, f"{folder}/files")
+        for how, kept in (("no cache", None), ("all in nginx's cache", "1h")):
+            with of_team(folder, places(copies), kept) as proxy:
+                fill(proxy.port, targets, f"{folder}/files")
                 before = processor(copies)
-                out = asked(folder, front.port, targets, seconds)
+                out = asked(folder, proxy.port, targets, seconds)
                 spent = processor(copies) - before
-            if zone == "off":
+            if not kept:
                 show(f"{what}, {how}", out, spent)
                 continue
-            with nginx(folder, f"root {folder}/files;", workers=2) as files:
+            with of_team(folder, places(copies), files=f"{folder}/files") as files:
                 theirs = asked(folder, files.port, targets, seconds)
             show(f"{what}, {how}", out, spent, OF_FILES, peer=("nginx, files", theirs))
-    with cached(folder, copies, "2s", "kept") as front:
-        fill(front.port, wanted["archives"])
+    with of_team(folder, places(copies), "2s") as proxy:
+        fill(proxy.port, wanted["archives"])
         before = processor(copies)
-        out = asked(folder, front.port, wanted["archives"], seconds)
+        out = asked(folder, proxy.port, wanted["archives"], seconds)
         show("archives, confirmed every 2 s", out, processor(copies) - before, is_fair=False)
-    with cached(folder, copies, "2s", "kept") as front:
-        fill(front.port, wanted["records"])
-        away(folder, copies, front.port, wanted["records"], seconds)
+    with of_team(folder, places(copies), "2s") as proxy:
+        fill(proxy.port, wanted["records"])
+        away(folder, copies, proxy.port, wanted["records"], seconds)
 
 
 def away(folder, copies, port, targets, seconds):
@@ -191,7 +203,11 @@ def copies_of(words, count):
                 running.enter_context(it)
         named = f"{count} {'copy' if count == 1 else 'copies'}"
         title(f"{CLIENTS} clients through nginx over {named} of {words.objects:,} objects")
-        measured(folder, copies, targets_of(f"{folder}/store.db"), words.seconds)
+        targets = targets_of(f"{folder}/store.db")
+        # (nginx would have each record in the memory of one copy, and the others ask their servers)
+        for place in places(copies):
+            fill(place, targets["records"])
+        measured(folder, copies, targets, words.seconds)
 
 
 def alone(_, words, folder):

@@ -1,8 +1,10 @@
 """nginx on a port of this machine."""
 import os
+import re
 import tempfile
 from pathlib import Path
 
+import parts
 from nixkeep_dev.bench.load import on
 from nixkeep_dev.bench.serving import Serving
 from nixkeep_dev.testing import packages
@@ -29,3 +31,34 @@ def nginx(folder: str, location: str, http: str = "", workers: int = 1, processo
     Path(f"{room}/nginx.conf").write_text(text)
     words = [packages.place_of("nginx"), "-p", room, "-e", "errors", "-c", "nginx.conf"]
     return Serving(port, *(words if processor is None else on(processor, *words)))
+
+
+# Where the team's nginx.conf has archives and records, what it keeps of them, and for how long.
+KEEPS = re.compile(r'(?s)    location ~ "\^/\(nar.*?\n    }\n')
+WHAT = re.compile(r"proxy_cache +nixkeep;(?= *\n *proxy_pass +http://\$team;)")
+LONG = "proxy_ignore_headers         vary;"
+# It serves files in place of these.
+FILES = '    location ~ "^/(nar/[0-9a-z]{{52}}/|[0-9a-z]{{32}}\\.narinfo$)" {{ set $may_connect -; root {folder}; }}\n'
+
+
+def of_team(folder: str, places: list[str], kept: str | None = None, files: str | None = None) -> Serving:
+    """The nginx of examples/team by a new folder in that one, as the proxy of the team red, whose nixkeep-cache are at
+    these places. There is no TLS and no password, and its limits are high, since all clients have one address. What it
+    keeps is good for the time `kept`, or it keeps no archive and no record; or it has these in the folder `files`."""
+    port, room = free_port(), tempfile.mkdtemp(dir=folder)
+    named = {"server unix:/run/nixkeep/red.socket;": " ".join(f"server unix:{it};" for it in places),
+             "/var/log/nginx": f"{room}/log", "/var/lib/nginx": f"{room}/nginx",
+             "default       nixkeep;": "default off;"}
+
+    def changed(text):
+        text = re.sub(r"(?m)^ *ssl_.*\n", "", text).replace(f"127.0.0.1:{port} ssl", f"127.0.0.1:{port}")
+        text = re.sub(r"\brate=\d+r/[sm]", "rate=1000000r/s", text)
+        text = re.sub(r"(limit_conn +nixkeep_clients) +\d+", r"\1 1000", text)
+        text = text.replace(LONG, f"{LONG[:-1]} cache-control;\n    proxy_cache_valid 200 {kept or '1m'};")
+        text = KEEPS.sub(lambda _: FILES.format(folder=files), text) if files else text
+        return text if kept else WHAT.sub("proxy_cache off;", text)
+
+    how = "worker_processes 2; worker_rlimit_nofile 4096; events { worker_connections 1024; }"
+    os.chmod(folder, 0o755)
+    file = parts.nginx_conf(room, "nginx.conf", named, port, how, changed)
+    return Serving(port, packages.place_of("nginx"), "-p", room, "-e", "errors", "-c", file)

@@ -38,12 +38,11 @@ REMARKS = [
            a millisecond for most requests. To start curl for them would come in addition."""),
     Remark(r"nix: .* over https: .*", "a query by `nixkeep-remote` over https",
            """python3 loads `ssl` for it, which takes longer than curl takes for all of the query."""),
-    Remark(r"readers: .* alone .*: records: requests", "requests to `nixkeep-cache` alone",
-           """It runs on one processor, on Debian's aiohttp, whose own part `bin/bench --print readers` has. It counts
-           each request, and asks who its user is and whether they may read."""),
     Remark(r"readers: .*: .*, all in nginx's cache: requests", "records and archives from nginx's cache",
-           """nginx asks its cache as well whether the reader may connect, and a file has no such question."""),
-    Remark(r"(readers|over_http): .*: 99th percentile", "one request in a hundred, next to half of them",
+           """nginx asks its cache as well whether the reader may connect, and reads the head of a reply that it keeps.
+           A file has neither."""),
+    Remark(r"(readers|over_http): (?!.* in nginx's cache).*: 99th percentile",
+           "one request in a hundred, next to half of them",
            """The server serves one connection after another, in the order in which they come."""),
     Remark(r"questions: .*POST /delete, of it and of these", "a deletion of a path with ten referrers",
            """It deletes eleven objects, and syncs the log."""),
