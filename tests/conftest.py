@@ -17,7 +17,8 @@ import pytest
 
 from nixkeep_dev.build import release
 from nixkeep_dev.build.program import HERE
-from nixkeep_dev.testing import case_items, cases, days, minutes, parts, report
+from nixkeep_dev.sources import recorded
+from nixkeep_dev.testing import case_items, cases, days, minutes, parts, report, script_items
 from nixkeep_dev.testing.libraries import Libraries
 
 
@@ -30,19 +31,29 @@ def pytest_addoption(parser):
     add("--seconds", metavar="N", type=float, default=cases.SECONDS, help="what a page of cases may take")
     add("--libraries", metavar="FILE", help="the program of crates/bench; else what needs it is skipped")
     add("--minutes", metavar="N", type=float, default=0, help="faults/soak.py: how long at least it goes on; "
-        "gate/sabotage.py: the processor minutes within which one more fault is planted, if not 0")
-    add("--today", action="store_true", help="gate/sabotage.py: the faults of a day, by --seed: all in 8 days")
-    add("--jobs", metavar="N", type=int, default=2, help="gate/sabotage.py: how many faults at a time")
+        "gate/plant.py: the time of a crate; gate/: the processor minutes within which one more is tried, if not 0")
+    add("--today", action="store_true", help="gate/: what is tried on a day, by --seed")
+    add("--gate", action="store_true", help="gate/wrong_bodies.py, edits.py: those that are always tried")
+    add("--changed", action="store_true", help=f"gate/wrong_bodies.py: all of crates that differ from {recorded.NAME}")
+    add("--record", action="store_true", help=f"gate/wrong_bodies.py: write the sums of the crates to {recorded.NAME}")
+    add("--bodies", action="store_true", help="gate/edits.py: wrong bodies too, each alone")
+    add("--jobs", metavar="N", type=int, help="gate/sabotage.py, coverage.py: how many at a time")
     add("--built", action="store_true", help="what `rt ci` leaves has to be there; else tests of that are skipped")
-    add("--lower", action="store_true", help="gate/checks.py: write numbers that are lower to files of gate/")
-    add("--raise", action="store_true", help="gate/checks.py: write numbers that are higher to files of gate/")
+    add("--lower", action="store_true", help="gate/checks.py, plant.py: write what is lower to files of gate/")
+    add("--raise", action="store_true", help="gate/checks.py, coverage.py: write what is higher to files of gate/")
     add("--write", action="store_true", help="gate/generated.py: write the pages")
     add("--root", metavar="FOLDER", help="a clean Debian that was made before, for package/clean_machine.py")
 
 
 def pytest_configure(config):
     config.pluginmanager.register(minutes.Minutes())
-    config.pluginmanager.register(case_items.Cases(program_file), case_items.Cases.__name__)
+    for plugin in (case_items.Cases, script_items.Scripts):
+        config.pluginmanager.register(plugin(program_file), plugin.__name__)
+
+
+def pytest_terminal_summary(terminalreporter):
+    for line in report.endings:
+        terminalreporter.write_line(line)
 
 
 @pytest.hookimpl(tryfirst=True)
@@ -88,11 +99,17 @@ def left_by_ci(pytestconfig) -> Callable:
     return left
 
 
+def names_module(config: pytest.Config) -> bool:
+    """Whether a command line names a module, and not only folders or cases."""
+    return any(".py" in word for word in config.args)
+
+
 @pytest.fixture(scope="session")
 def libraries(pytestconfig) -> Libraries:
-    """The program of crates/bench: the one that is named, or the one that the toolchain builds."""
+    """The program of crates/bench: the one that is named or, for a module that is run by its name, the one that the
+    toolchain proves and builds."""
     file = pytestconfig.getoption("--libraries")
-    if not file and not shutil.which("rt"):
+    if not file and not (names_module(pytestconfig) and shutil.which("rt")):
         pytest.skip("needs the program of crates/bench, which the Rattle toolchain builds (--libraries)")
     return Libraries(file)
 
@@ -112,8 +129,14 @@ def rng(seed) -> random.Random:
 @pytest.fixture(scope="module")
 def count(request) -> int | None:
     """How much is tried, where a command line says it. Where it names no module, as much as bin/test tries."""
-    given, is_named = request.config.getoption("--count"), any(".py" in word for word in request.config.args)
-    return given if given is not None or is_named else parts.count_of(request.path)
+    given = request.config.getoption("--count")
+    return given if given is not None or names_module(request.config) else parts.count_of(request.path)
+
+
+@pytest.fixture(scope="module")
+def bound(pytestconfig) -> days.Bound:
+    """The processor minutes within which one more of a day may begin."""
+    return days.Bound(pytestconfig.getoption("--minutes") or None)
 
 
 @pytest.fixture(scope="module")

@@ -16,7 +16,7 @@ import pytest
 
 from nixkeep_dev.build import program, release
 from nixkeep_dev.sources import bodies, clauses, plants, recorded
-from nixkeep_dev.testing import answers, days, hints, packages, parts, report, sabotage
+from nixkeep_dev.testing import answers, covered, days, hints, packages, parts, report, sabotage
 from nixkeep_dev.testing.lowered import Lowered, Raised
 from nixkeep_dev.testing.report import finds_nothing
 from nixkeep_dev.testing.tracked import git, is_script, of_language, text_of, tracked
@@ -161,11 +161,13 @@ def test_survivors():
 
 @finds_nothing
 def test_listed():
-    """tests/gate/plants.txt has an entry for each crate of the product, and tests/gate/tried.txt for each crate with
-    wrong bodies, and no other."""
+    """tests/gate/plants.txt has an entry for each crate of the product, tests/gate/tried.txt for each crate with wrong
+    bodies, and coverage.txt for each test of a tool that is measured, and no other."""
     product = {crate for crate in program.listed() if crate not in clauses.NO_PRODUCT}
     yield from [f"{plants.NAME}: {crate}" for crate in sorted(product ^ plants.listed().keys())]
     yield from [f"{recorded.NAME}: {crate}" for crate in sorted({*bodies.having()} ^ recorded.listed().keys())]
+    measured = {covered.OF_ALL, *map(covered.of_one, covered.measured_tests())}
+    yield from [f"coverage.txt: {it}" for it in sorted(measured ^ Raised("coverage.txt").kept.keys())]
 
 
 @finds_nothing

@@ -1,177 +1,68 @@
-"""Tries edits of crates, each alone: without a NAME the wrong definitions and constants of all crates.
+"""Tries wrong definitions and constants of crates, each alone: each has to be refused.
 
-tests/gate/wrong_bodies.py passes these over: what a definition says is in the contracts of many functions. So some of
-those that cite it are checked with it, over the others, which are only stated: one has to be refused. Where none is,
-the whole crate has to be. An edit of `laws` may change a definition of a crate below, as `file:
-../model/specs/Step.antt`. Then the laws are checked over the sources of this crate and of those between the two, in one
-check; where no law is refused, what they prove themselves has to be. A check takes what an earlier one has kept of a
-crate and is still true. An error counts if it isn't for a name that the edit took away, and a text that can't be read
-isn't refused for what it says. The libraries beneath are those that lie in the folders out/, as `rt ci` leaves them, or
-`rt lib`.
+They are the edits of crates/NAME/further/ that tests/gate/wrong_bodies.py passes over, since they are of no body
+(dev/nixkeep_dev/sources/tried_definitions.py tries them). The libraries beneath are those that lie in the folders out/,
+as `rt ci` leaves them, or `rt lib`. `-k "[nar/"` tries those of one crate, and with --bodies its wrong bodies, too.
 
 Without --gate and --today each check is made without its edit first, and has to pass. One that survives fails, unless
 tests/gate/survivors.txt names it with the reason; so does one that is named there and refused.
 
-A NAME is a crate, whose edits of bodies are tried too, or CRATE/EDIT. With --gate it tries those that
-tests/gate/mistakes.txt names, and with --today a twelfth of the others, by --seed, which is the day: all within twelve
-days. With --minutes no further edit of the day is tried once these processor minutes are spent: the last lines say how
-many are left out, which counts as skipped. Each twelve days begin with other edits than the twelve days before, so what
-is left out then is tried later.
+With --gate it tries those that tests/gate/mistakes.txt names and those of `laws`, and with --today a twelfth of the
+others, by --seed, which is the day: all within twelve days. With --minutes no further edit of the day is tried once
+these processor minutes are spent: what is left out is skipped. Each twelve days begin with other edits than the twelve
+days before, so what is left out then is tried later.
 """
-import os
-import re
-import tempfile
-import time
 from concurrent.futures import ThreadPoolExecutor
 
+import pytest
+
 from nixkeep_dev.build import program
-from nixkeep_dev.sources import bodies, citations, copies, functions
-from nixkeep_dev.testing import days, report
-from nixkeep_dev.testing.runs import spent
+from nixkeep_dev.sources import bodies, copies
+from nixkeep_dev.sources.tried_definitions import try_each
+from nixkeep_dev.testing import edits
 
-# How many of the functions that cite a definition are checked alone, before the whole crate is.
-CITING = 3
-ERROR = re.compile(r"(?:\./)?(\S+?):\d+:\d+: error: (?:(`[^`]*`): )?(.*)")
-# What an error says of a text that can't be read.
-UNREAD = re.compile(r"is not in scope|is no name|operand is missing|expected the end|cannot continue")
-
-
-def changes_of(crate, edit):
-    """The changes of an edit by the crate that they are of, with the files' paths in it."""
-    found = {}
-    for file, old, new in edit.pairs:
-        at = os.path.normpath(f"{crate}/{file}")
-        found.setdefault(at.split("/")[0], []).append((at.partition("/")[2], old, new))
-    return found
-
-
-def errors_of(said):
-    return [ERROR.match(line) for line in said.splitlines() if ERROR.match(line)]
-
-
-def unread(said, changed):
-    """The errors that a check said of these files, which were changed, and whose text can't be read."""
-    return [it[0] for it in errors_of(said) if it[1].endswith(changed) and (not it[2] or UNREAD.search(it[3]))]
-
-
-def judged(status, said, changed):
-    """Why what a check said is no refusal; None where it is one."""
-    if status == 0:
-        return "NOT REFUSED"
-    if status != 1:
-        return f"NOT TRIED: a check ended with status {status}:\n{said[-600:]}"
-    if found := unread(said, changed):
-        return f"its text can't be read: {found[0]}"
-    found = errors_of(said)
-    if any(not any(name in it[3] for name in bodies.OF_NAMES) for it in found) or "it is not proved" in said:
-        return None
-    return f"NOT REFUSED for what it says:\n{said[-600:]}"
-
-
-def is_refused_by_some(crate, edit, named, kept, is_tried_without):
-    """Whether some of the functions that cite what an edit changes are refused with it, over the others. Where they are
-    tried without it too, all have to be proved then."""
-    texts = {**bodies.sources(crate), **bodies.sources(crate, "specs")}
-    citing, made = citations.citing(edit.pairs, texts)[:CITING], bodies.laid(edit.pairs, texts)
-    if not citing or made is None:
-        return False
-    check = lambda texts: copies.check_stated(crate, named, texts, {*citing}, f"{kept}/{crate}")
-    if is_tried_without and not all(map(check(texts).is_proved, citing)):
-        return False
-    checked, files = check(made), tuple(file for file, _, _ in edit.pairs)
-    if unread(checked.output, files):
-        return False
-    # (an error may be of a lemma on which the function's proof depends)
-    not_proved = [it for it in citing if checked.said.get(it, "").startswith("not proved")]
-    return any(map(checked.is_refused, citing)) or bool(not_proved and judged(1, checked.output, files) is None)
-
-
-def why_not_over_sources(among, changed, named, kept, is_tried_without):
-    """Tries changes of crates over the sources of all that are changed and those above: why they aren't refused."""
-    crate, files = among[-1], tuple(file for of_one in changed.values() for file, _, _ in of_one)
-    laws = [path for *_, path in functions.functions(bodies.sources(crate))] if len(among) > 1 else []
-    with tempfile.TemporaryDirectory(prefix="rt-edit-") as room:
-        check = lambda top, only: copies.check_sources(among, named, top, only, f"{kept}/{among[0]}")
-        if is_tried_without:
-            [copies.put(it, [], f"{room}/without") for it in among]
-            if check(f"{room}/without", laws)[0]:
-                return "NOT TRIED: without it the check fails, too"
-        if not all([copies.put(it, changed.get(it, []), room) for it in among]):
-            return "its text doesn't stand once in the sources"
-        # (with no law that is refused, all that the crates prove is checked)
-        for only in [laws, []] if laws else [[]]:
-            status, said = check(room, only)
-            if status:
-                break
-        return judged(status, said, files)
-
-
-def why_not(crate, edit, named, kept, is_tried_without=False):
-    """Tries an edit alone, over what was kept of each crate: why it isn't refused, or None."""
-    changed = changes_of(crate, edit)
-    among = [it for it in program.with_below(crate, named) if {*program.with_below(it, named)} & {*changed}]
-    for it in among:
-        os.makedirs(f"{kept}/{it}", exist_ok=True)
-    if among == [crate] and is_refused_by_some(crate, edit, named, kept, is_tried_without):
-        return None
-    return why_not_over_sources(among, changed, named, kept, is_tried_without)
-
-
-def try_crate(crate, edits, named, bound, is_tried_without):
-    """Tries edits of a crate one after another: how many were refused."""
-    refused, survivors = 0, bodies.excused(bodies.SURVIVORS)
-    with tempfile.TemporaryDirectory(prefix="rt-edits-") as kept:
-        for edit in edits:
-            if (crate, edit.name) not in bodies.always() and bound.leaves_out([edit]):
-                continue
-            since = time.monotonic()
-            why = why_not(crate, edit, named, kept, is_tried_without)
-            refused += why is None
-            line = f"{crate}/{edit.name}: {why or 'refused'} ({time.monotonic() - since:.0f} s)"
-            is_known = (crate, edit.name) in survivors
-            if is_known:
-                line = f"{line}: {bodies.SURVIVORS} has it"
-            (report.tell if is_known == (why is not None) else report.failure)(line)
-    return refused
+WHAT = "wrong definitions"
+# How many edits are tried one after another at most, each over what was kept of the one before.
+IN_TURN = 30
 
 
 def chosen(words):
-    """The edits to try, as pairs of a crate and a name, and how many there are."""
-    every = [(crate, it.name) for crate, it in bodies.every(False)]
-    if words.names:
-        bodies.having([name.partition("/")[0] for name in words.names])
-        every += [(crate, it.name) for crate, it in bodies.every(True)]
-        return [it for it in every if it[0] in words.names or "/".join(it) in words.names], len(every)
-    if words.gate or words.today:
-        of_day = bodies.definitions_of_day(words.seed) if words.today else []
-        return [*([it for it in bodies.always() if it in every] if words.gate else []), *of_day], len(every)
-    return every, len(every)
+    """The edits to try: all, or those of the day and those that are always tried."""
+    every = {edit.key(): edit for _, edit in bodies.every(False)}
+    if not words.is_part:
+        return [*every.values(), *(edit for _, edit in (bodies.every(True) if words.option("--bodies") else []))]
+    # (those of the day come first: they have a bound)
+    of_day = bodies.definitions_of_day(words.day) if words.option("--today") else []
+    return [every[key] for key in [*of_day, *(it for it in words.always if it in every)]]
 
 
-def more(parser):
-    parser.add_argument("--gate", action="store_true", help=f"those that {bodies.MISTAKES} names")
-    days.add_to(parser, bodies.DAYS)
-    parser.add_argument("names", nargs="*", metavar="NAME", help="a crate that has further edits, or CRATE/EDIT")
+def pytest_generate_tests(metafunc):
+    metafunc.parametrize("edit", chosen(edits.Words(metafunc.config.getoption)), ids=str)
 
 
-def run(words):
-    (found, count), named, bound = chosen(words), program.listed(), days.Bound(words.minutes)
-    if not found:
-        report.fail("no edit has this name")
-    edits = {(crate, it.name): it for of_bodies in (True, False) for crate, it in bodies.every(of_bodies)}
-    is_part, together = words.gate or words.today, {}
-    for it in found:
-        together.setdefault((it[0], *sorted({*bodies.crates_below(edits[it])})), []).append(edits[it])
+def group(edit):
+    """What edits have in common that are tried one after another: a check of one takes what another has kept."""
+    return edit.crate, *sorted({*bodies.crates_below(edit)})
+
+
+@pytest.fixture(scope="module")
+def words(pytestconfig):
+    return edits.Words(pytestconfig.getoption)
+
+
+@pytest.fixture(scope="module")
+def tried(request, words):
+    """By the edit the running checks of those that are to run."""
+    named, groups, running = program.listed(), edits.together(edits.to_run(request), group), {}
+    in_turn = [of_one[at : at + IN_TURN] for of_one in groups.values() for at in range(0, len(of_one), IN_TURN)]
     with ThreadPoolExecutor(copies.lanes()) as pool:
-        tried = lambda crates: try_crate(crates[0], together[crates], named, bound, not is_part)
-        refused = sum(pool.map(tried, together))
-    report.passes(refused)
-    number = len(found) - len(bound.left_out)
-    report.tell(f"{number} of {count} edits tried{days.said_of(words)}, and {refused} of them refused, in"
-                f" {spent() / 60:.1f} processor minutes")
-    bound.tell("wrong definitions", number)
-    return len(report.wrong)
+        for some in in_turn:
+            running |= dict.fromkeys(some, pool.submit(try_each, some, named, words.bound, not words.is_part))
+        yield running
+        pool.shutdown(cancel_futures=True)
+    done = [it.result() for it in dict.fromkeys(running.values()) if not it.cancelled()]
+    words.tell(WHAT, len(bodies.every(False)), [verdict for found in done for verdict in found.values()])
 
 
-if __name__ == "__main__":
-    report.script(__doc__, run, more=more)
+def test_refused(edit, tried, words):
+    words.judge(WHAT, edit, tried[edit].result().get(edit))

@@ -2,9 +2,9 @@
 
 tests/gate/plants.txt has these of each crate that was tried. The list may only get shorter: what it doesn't have fails,
 and so does what it has and is refused now. --lower takes that out, and writes the first list of a crate. Each needs a
-clause, or an explanation in the README.md of the crate. Bodies for which `rt plant` has no time are skipped: --minutes
-is for each crate, by the clock, after a first check of the crate. What it lists then may be more than it would list at
-its end, so nothing new fails.
+clause, or an explanation in the README.md of the crate. `-k "[nar]"` names a crate; all together take days. Where
+`rt plant` has no time for some bodies, the test is skipped: --minutes is for each crate, by the clock, after a first
+check of the crate, or else an hour. What it lists then may be more than it would list at its end, so nothing new fails.
 
 With --today it tries a crate of the list, by --seed, which is the day: as many days as the list has crates try each. It
 is skipped where the toolchain is another release than the one whose bodies the list has, and where that has no crate.
@@ -17,6 +17,8 @@ import subprocess
 import types
 from pathlib import Path
 
+import pytest
+
 from nixkeep_dev.build import program
 from nixkeep_dev.sources import plants
 from nixkeep_dev.testing import days, report
@@ -24,6 +26,8 @@ from nixkeep_dev.testing.runs import spent
 from nixkeep_dev.testing.tracked import copy_to
 
 FOLDERS = ("bench/", "completion/", "docs/", "examples/", "man/", "packaging/", "release/", "tests/", "tools/")
+# The minutes of a crate, unless a command line says more or less.
+MINUTES = 60
 
 
 def put_libraries(top, crate):
@@ -43,7 +47,7 @@ def put_libraries(top, crate):
 
 def planted(top, crate, minutes):
     """What `rt plant` says of a crate in the copy; it fails where that is no list."""
-    words = ["rt", "plant", "--all", "--max", "10000", "--minutes", str(minutes), "--jobs", "1"]
+    words = ["rt", "plant", "--all", "--max", "10000", "--minutes", f"{minutes:g}", "--jobs", "1"]
     how = {"stdin": subprocess.DEVNULL, "stdout": subprocess.PIPE, "text": True, "errors": "replace"}
     ran = subprocess.run(words, cwd=f"{top}/crates/{crate}", **how)
     if ran.returncode or not plants.COUNTS.search(ran.stdout):
@@ -51,39 +55,15 @@ def planted(top, crate, minutes):
     return plants.Said(ran.stdout)
 
 
-def judge(crate, said, known):
-    """Counts the bodies of a crate, and prints what differs from the list; how many differ."""
-    rows, unknown = said.accepted(), {it for it in known if not said.is_known(it)}
-    added, gone = sorted(rows - known), sorted(known - rows - unknown)
-    wrong = [f"{crate}: {plants.NAME} has it, and it isn't accepted now: {it}" for it in gone]
-    if left := said.counts["not-run"]:
-        report.skip(f"{left} bodies of {crate}, for which there was no time", left)
+def pytest_generate_tests(metafunc):
+    option = metafunc.config.getoption
+    if not option("--today"):
+        crates = sorted(plants.listed())
+    elif why := why_not_today():
+        crates = [pytest.param("none", marks=pytest.mark.skip(why))]
     else:
-        wrong += [f"{crate}: accepted, and {plants.NAME} doesn't have it: {it}" for it in added]
-    report.passes(said.counts["refused"] + len(rows & known))
-    tried = sum(it != "not-run" for it in said.kinds.values())
-    report.tell(f"{said.line}\n{tried:,} of {len(said.kinds):,} bodies tried")
-    for line in wrong:
-        report.failure(line)
-    return len(wrong)
-
-
-def more(asked):
-    asked.add_argument("--today", action="store_true", help="a crate of the list, by --seed: each on a day of its own")
-    asked.add_argument("--minutes", metavar="N", type=int, default=60, help="the time of a crate (60)")
-    asked.add_argument("--lower", action="store_true",
-                       help=f"write a shorter list, or the first of a crate, to {plants.NAME}")
-    asked.add_argument("names", nargs="*", metavar="CRATE")
-
-
-def chosen(words):
-    """The crates to try."""
-    names = plants.of_day(words.seed) if words.today else words.names
-    if unknown := [name for name in names if name not in program.listed()]:
-        report.fail(f"no crate {' '.join(unknown)}")
-    if not names:
-        report.fail("name a crate, or give --today")
-    return names
+        crates = plants.of_day(days.of_seed(option("--seed")))
+    metafunc.parametrize("crate", crates)
 
 
 def why_not_today():
@@ -94,25 +74,37 @@ def why_not_today():
     return None if plants.recorded_crates() else f"{plants.NAME} has no crate that was tried"
 
 
-def run(words):
-    if words.today and (why := why_not_today()):
-        return report.skip(why)
-    known, names, named, failed = plants.listed(), chosen(words), program.listed(), 0
-    program.prove(tuple({below for name in names for below in program.with_below(name, named)[:-1]}))
-    top = f"{words.folder}/nixkeep"
-    copy_to(top, FOLDERS)
-    subprocess.run(["git", "init", "-q", top], check=True)
-    for crate in names:
-        put_libraries(top, crate)
-        said, rows = planted(top, crate, words.minutes), known.get(crate)
-        if words.lower and not said.is_cut():
-            known[crate] = rows = sorted(said.accepted() if rows is None else said.accepted() & {*rows})
-        failed += judge(crate, said, {*(rows or [])})
-    if words.lower:
-        plants.write(known)
-    report.tell(f"{' '.join(names)} tried{days.said_of(words)}, in {spent() / 60:.1f} processor minutes")
-    return failed
+@pytest.fixture(scope="module")
+def top(shared_folder, pytestconfig):
+    """A copy of the repository."""
+    made = f"{shared_folder}/nixkeep"
+    copy_to(made, FOLDERS)
+    subprocess.run(["git", "init", "-q", made], check=True)
+    yield made
+    of_day = f"of the day by seed {pytestconfig.getoption('--seed')}, " if pytestconfig.getoption("--today") else ""
+    report.ends_with(f"tried {of_day}in {spent() / 60:.1f} processor minutes")
 
 
-if __name__ == "__main__":
-    report.script(__doc__, run, more=more)
+def differences(said, known):
+    """What a run says of a crate otherwise than the list."""
+    rows, unknown = said.accepted(), {it for it in known if not said.is_known(it)}
+    wrong = [f"{plants.NAME} has it, and it isn't accepted now: {it}" for it in sorted(known - rows - unknown)]
+    added = [] if said.is_cut() else sorted(rows - known)
+    return [*wrong, *(f"accepted, and {plants.NAME} doesn't have it: {it}" for it in added)]
+
+
+def test_accepted(crate, top, pytestconfig):
+    program.prove(tuple(program.with_below(crate, program.listed())[:-1]))
+    put_libraries(top, crate)
+    said, listed = planted(top, crate, pytestconfig.getoption("--minutes") or MINUTES), plants.listed()
+    if pytestconfig.getoption("--lower") and not said.is_cut():
+        rows = listed[crate]
+        listed[crate] = sorted(said.accepted() if rows is None else said.accepted() & {*rows})
+        plants.write(listed)
+    known, tried = {*(listed[crate] or [])}, sum(it != "not-run" for it in said.kinds.values())
+    report.ends_with(f"{said.line}\n{tried:,} of {len(said.kinds):,} bodies tried")
+    if wrong := differences(said, known):
+        pytest.fail("\n".join(wrong), pytrace=False)
+    report.passes(said.counts["refused"] + len(said.accepted() & known))
+    if left := said.counts["not-run"]:
+        pytest.skip(f"{left} bodies of {crate}, for which there was no time")

@@ -32,16 +32,11 @@ def pytest_generate_tests(metafunc):
 
 
 @pytest.fixture(scope="module")
-def bound(pytestconfig):
-    return days.Bound(pytestconfig.getoption("--minutes") or None)
-
-
-@pytest.fixture(scope="module")
 def runs(request, program, shared_folder, bound):
     """By the name of each fault that is planted its run, and the one of its part without a fault."""
     report.needs("cc", "git")
     faults = [item.callspec.params["fault"] for item in request.session.items if item.path == request.path]
-    with ThreadPoolExecutor(request.config.getoption("--jobs")) as pool:
+    with ThreadPoolExecutor(request.config.getoption("--jobs") or 2) as pool:
         yield sabotage_runs.begun(pool, faults, sabotage.Copies(shared_folder), program, bound)
         pool.shutdown(cancel_futures=True)
 

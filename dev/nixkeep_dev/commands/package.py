@@ -101,11 +101,11 @@ def libc_of(file):
 
 def put_control(top, file):
     size = sum(os.lstat(f"{top}/{it}").st_size for it in files_below(top))
-    told = Path(f"{HERE}/packaging/control").read_text().format(version=layout.version(), size=(size + 1023) // 1024,
+    text = Path(f"{HERE}/packaging/control").read_text().format(version=layout.version(), size=(size + 1023) // 1024,
                                                                 libc=libc_of(file))
     plain = [it for it in files_below(top) if it.startswith("usr/") and not Path(f"{top}/{it}").is_symlink()]
     sums = "".join(f"{layout.sum_of(f'{top}/{it}', 'md5')}  {it}\n" for it in plain)
-    put(top, "DEBIAN/control", told.encode())
+    put(top, "DEBIAN/control", text.encode())
     put(top, "DEBIAN/conffiles", b"/etc/nixkeep/store.toml\n")
     put(top, "DEBIAN/md5sums", sums.encode())
     for name in ("postinst", "prerm"):

@@ -30,13 +30,15 @@ import os
 import sys
 from pathlib import Path
 
+from nixkeep_dev.commands import gate
+from nixkeep_dev.sources import bodies, plants
 from nixkeep_dev.testing import packages, parts, report, skips
 from nixkeep_dev.testing.cases import CASES
-from nixkeep_dev.testing.runs import ALONE, TESTS, command, file_of, not_allowed, options_of, run, together
+from nixkeep_dev.testing.runs import ALONE, TESTS, file_of, not_allowed, options_of, run, together
 
 # The processor minutes that all may take. Another number is a decision, which belongs into docs/DECISIONS.md.
 BUDGET = 400
-# Parts that are one script, to which names are given.
+# Parts that are one module, to which names are given.
 BY_THEMSELVES = {"bodies": "wrong_bodies", "plant": "plant", "sabotage": "sabotage"}
 
 
@@ -50,18 +52,25 @@ def by_itself(part, known):
     return [it for it in known if part != "gate" or it in parts.CHECKS]
 
 
+def named(part, names):
+    """The words by which pytest chooses what has these names: crates, or some words of a planted fault's name."""
+    of_one = {"bodies": "[{}/", "plant": "[{}]", "sabotage": "({})"}[part]
+    return ["-k", " or ".join(of_one.format(" and ".join(name.split())) for name in names)] if names else []
+
+
 def whole_part(words):
     """The file that runs a part, and the names that are given to it; the files of cases."""
     if words.part == "cases":
         return [f"{CASES}/{name.removesuffix('.txt')}.txt" for name in words.names] or [CASES]
-    names = words.names
-    if words.part == "sabotage" and names:
-        # (a name is some words of the fault's)
-        names = ["-k", " or ".join(f"({' and '.join(name.split())})" for name in names)]
-    return [file_of(f"gate/{BY_THEMSELVES[words.part]}"), *names]
+    return [file_of(f"gate/{BY_THEMSELVES[words.part]}"), *named(words.part, words.names)]
 
 
 def run_part(words, parser):
+    of_crates = {"bodies": bodies.having, "plant": plants.listed}
+    if unknown := [it for it in words.names if words.part in of_crates and it not in of_crates[words.part]()]:
+        parser.error(f"{words.part}: no crate {' '.join(unknown)}")
+    if words.part == "plant" and not words.names:
+        parser.error("plant: name a crate")
     program = words.program and str(Path(words.program).absolute())
     given = {"program": program, "seed": words.seed, "count": words.count}
     if words.part in ("cases", *BY_THEMSELVES):
@@ -96,9 +105,7 @@ def run_all(words):
         ran = run([file_of(f"gate/{name}")])
         if not ran.is_good() or words.no_skips and not_allowed([ran]):
             return 1
-    more = ["--no-skips"] if words.no_skips else []
-    words = command([file_of("gate/gate"), str(BUDGET), *more])
-    os.execv(words[0], words)
+    return gate.gate(BUDGET, not words.no_skips)
 
 
 def main() -> int:

@@ -12,6 +12,8 @@ from nixkeep_dev.testing import days, report
 
 # The mistakes that a store must not make, each with the edits that make it, or with what else notices it.
 MISTAKES, ELSEWHERE = "tests/gate/mistakes.txt", ("case", "test")
+# The crate that has what follows from the definitions of a store. Its wrong definitions are always tried.
+LAWS = "laws"
 # Edits that change nothing: they have to survive. Those that a check refuses nevertheless, each with the reason.
 EQUAL, EXCUSED = "further/equal", "tests/gate/equal.txt"
 # Wrong bodies that a check doesn't refuse for what they do, each with the reason.
@@ -33,12 +35,23 @@ ERROR = re.compile(r"^\./proofs/(\S+)/\w+\.antt:\d+:\d+: error: (.*(?:\n(?:  |\t
 class Edit:
     """A wrong body or definition: what it replaces, in which file, and the functions whose bodies it changes."""
 
-    def __init__(self, path, texts):
-        self.name, self.path, self.pairs = Path(path).name.removesuffix(".edit"), path, changes(path)
+    def __init__(self, crate: str, path: str, texts: dict[str, str]):
+        self.crate, self.name, self.path, self.pairs = crate, Path(path).stem, path, changes(path)
         self.functions = [functions.function_at(file, texts, old) for file, old, _ in self.pairs]
+
+    def __str__(self):
+        return f"{self.crate}/{'equal/' if self.is_equal() else ''}{self.name}"
+
+    def key(self) -> tuple[str, str]:
+        """The crate and the name, by which lists name an edit."""
+        return self.crate, self.name
 
     def is_of_bodies(self) -> bool:
         return None not in self.functions
+
+    def is_equal(self) -> bool:
+        """Whether it changes nothing."""
+        return Path(self.path).parent.name == Path(EQUAL).name
 
 
 def sources(crate: str, part: str = "src") -> dict[str, str]:
@@ -51,7 +64,7 @@ def sources(crate: str, part: str = "src") -> dict[str, str]:
 def further(crate: str, folder: str = "further") -> list[Edit]:
     """The further edits of a crate, in the order of their names."""
     texts = sources(crate)
-    return [Edit(path, texts) for path in sorted(glob.glob(f"{program.HERE}/crates/{crate}/{folder}/*.edit"))]
+    return [Edit(crate, path, texts) for path in sorted(glob.glob(f"{program.HERE}/crates/{crate}/{folder}/*.edit"))]
 
 
 def mistakes() -> list[tuple[str, list]]:
@@ -63,8 +76,10 @@ def mistakes() -> list[tuple[str, list]]:
 
 @functools.cache
 def always() -> list[tuple]:
-    """The edits that the gate always tries, those of the mistakes: pairs of a crate and a name."""
-    return [*dict.fromkeys(it for _, by in mistakes() for it in by if it[0] not in ELSEWHERE)]
+    """The edits that the gate always tries, those of the mistakes and the wrong definitions of the laws: pairs of a
+    crate and a name."""
+    of_mistakes = [it for _, by in mistakes() for it in by if it[0] not in ELSEWHERE]
+    return [*dict.fromkeys([*of_mistakes, *((crate, it.name) for crate, it in every(False) if crate == LAWS)])]
 
 
 @functools.cache

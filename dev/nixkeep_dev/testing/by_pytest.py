@@ -45,11 +45,8 @@ class Counts:
             self.left.discard(report.nodeid)
         _, *came = report.came
         self.examples, self.tried, self.places = map(sum, zip((self.examples, self.tried, self.places), came))
-        if report.failed:
-            self.failed.add(report.nodeid)
-        elif report.skipped:
-            self.skipped[report.longrepr[2].removeprefix("Skipped: ")] += 1
-        elif report.when == "call":
+        self.pytest_collectreport(report)
+        if report.passed and report.when == "call":
             self.passed += PREPARES not in report.user_properties
 
     def pytest_collectreport(self, report):

@@ -1,8 +1,6 @@
 """What is tried a part of each day, so that all is tried within some days."""
-import argparse
 from collections.abc import Callable, Iterable, Sequence
 
-from nixkeep_dev.testing import report
 from nixkeep_dev.testing.runs import spent
 
 DAYS = 8
@@ -57,22 +55,3 @@ class Bound:
         is_spent = self.is_spent()
         self.left_out.extend(items if is_spent else [])
         return is_spent
-
-    def tell(self, what: str, tried: int) -> None:
-        """Says how much was left out, which counts as skipped; it is wrong where nothing was tried."""
-        if count := len(self.left_out):
-            report.skip(f"{count} {what} of the day, since {self.minutes:g} processor minutes are spent", count)
-            if not tried:
-                report.failure(f"no {what} were tried")
-
-
-def add_to(parser: argparse.ArgumentParser, count: int = DAYS) -> None:
-    """The options of a script that tries a part of something each day."""
-    parser.add_argument("--today", action="store_true", help=f"those of a day, by --seed: all in {count} days")
-    parser.add_argument("--minutes", metavar="N", type=float,
-                       help="the processor minutes within which one of the day may begin; others are skipped")
-
-
-def said_of(words: argparse.Namespace) -> str:
-    """What such a script prints of the day that it tries, if it does: then its numbers differ from day to day."""
-    return f", of the day by seed {words.seed}" if words.today else ""

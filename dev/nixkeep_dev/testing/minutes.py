@@ -42,6 +42,8 @@ class Minutes:
 
     @pytest.hookimpl(tryfirst=True)
     def pytest_runtest_logreport(self, report: pytest.TestReport) -> None:
+        # (that of a test in which a process of xdist has died has nothing)
+        report.came = getattr(report, "came", (0, 0, 0, 0))
         before = self.came.get(report.nodeid, (0, 0, 0, 0))
         self.came[report.nodeid] = [it + was for it, was in zip(report.came, before)]
         self.clock[report.nodeid] = self.clock.get(report.nodeid, 0) + report.duration

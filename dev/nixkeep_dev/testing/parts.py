@@ -71,7 +71,7 @@ def by_name() -> dict[str, dict]:
                     if tool.startswith(("cache", "hostile", "logins", "overview", "units"))}},
         "package": {"clean_machine": file_of("package/clean_machine"), "files": file_of("tools/test_package"),
                     "scripts": file_of("tools/test_package_scripts")},
-        "gate": {script: file_of(f"gate/{script}") for script in scripts("gate") if script != "gate"},
+        "gate": {script: file_of(f"gate/{script}") for script in scripts("gate")},
     }
 
 

@@ -25,6 +25,8 @@ tried = 0
 places = 0
 chosen_by = None
 wrong = []
+# What the last lines of pytest say besides.
+endings = []
 
 
 class Failed(Exception):
@@ -90,6 +92,11 @@ def finds_nothing(check: Callable[..., Iterable[str]]) -> Callable[..., None]:
 
 def tell(text: object) -> None:
     print(text, flush=True)
+
+
+def ends_with(line: str) -> None:
+    """Has the last lines of pytest say this."""
+    endings.append(line)
 
 
 def missing(needed: Iterable[str]) -> str | None:
@@ -187,10 +194,9 @@ def main(run):
     sys.exit(1 if failed else 0)
 
 
-def script(doc: str, run: Callable, more: Callable = lambda arguments: None, need: Iterable[str] = (),
-           skip: Iterable[str] = ()) -> None:
+def script(doc: str, run: Callable, more: Callable = lambda arguments: None, need: Iterable[str] = ()) -> None:
     """Runs a script with its words, and among these a folder of its own. It fails where a tool that it needs isn't
-    installed, and is skipped without one of the others."""
+    installed."""
 
     def also(arguments):
         number = {"metavar": "N", "type": int, "default": today()}
@@ -200,8 +206,6 @@ def script(doc: str, run: Callable, more: Callable = lambda arguments: None, nee
     def with_words():
         words = options(doc, also)
         needs(*need)
-        if skips(*skip):
-            return 0
         with tempfile.TemporaryDirectory() as words.folder:
             return run(words)
 

@@ -1,16 +1,18 @@
-"""Runs `rt ci`, then all that tries the program that it built, and prints what took how long: `gate MINUTES`.
+"""Runs `rt ci`, then all that tries the program that it built, and prints what took how long.
 
 After `rt ci` it compares the bytes of the program with those of release/. Then come, side by side: wrong bodies, and
-after them wrong definitions, those of the mistakes that a store must not make, all wrong bodies of the crates that
-tests/gate/tried.txt has with another sum, and those of the day; the bodies that `rt plant` makes of the day's crate;
-the program as `bin/nixkeep` builds it, and as Rattle's own compiler does; the cases, comparisons, the tests of the
-tools, a clean Debian with the package, and a part of each fault script, chosen by the day; the planted faults of the
-day; and which lines of the tools some tests run. At the end is a table of processor minutes: for each crate its proof,
-its tests (proved and run) and its edits; then one of the parts, with the minutes of the clock too. Both begin with what
-took most. It fails where a part does, and where all took more than MINUTES. The whole is what the system counts; what
-each crate took is seen by looking at the running processes, so the row `else` has what no look has caught. The last
-lines are what was skipped, the comparison with the release, and `N passed, M failed`: those of `rt ci` and of each part
-and, where it is exceeded, the budget. The program stays, and bin/nixkeep runs it. bin/test calls this.
+after them wrong definitions: those of the mistakes that a store must not make, all wrong definitions of `laws`, all
+wrong bodies of the crates that tests/gate/tried.txt has with another sum, and those of the day; the bodies that `rt
+plant` makes of the day's crate; the program as `bin/nixkeep` builds it, and as Rattle's own compiler does; the cases,
+comparisons, the tests of the tools, a clean Debian with the package, and a part of each fault script, chosen by the
+day; the planted faults of the day; and which lines of the tools some tests run. At the end is a table of processor
+minutes: for each crate its proof, its tests (proved and run) and its edits; then one of the parts, with the minutes of
+the clock too. Both begin with what took most. It fails where a part does, and where all took more than MINUTES. The
+whole is what the system counts; what each crate took is seen by looking at the running processes, so the row `else`
+has what no look has caught. The last lines are what was skipped, the comparison with the release, and `N passed, M
+failed`: those of `rt ci` and of each part and, where it is exceeded, the budget. The program stays, and bin/nixkeep
+runs it. `bin/test all` calls this after the checks of the repository, and `bin/run dev/nixkeep_dev/commands/gate.py
+MINUTES` does without them.
 """
 import collections
 import os
@@ -60,7 +62,7 @@ class Watch:
     def __init__(self):
         self.ticks, self.work = {}, {}
 
-    def look(self, top):
+    def look(self, top: int) -> None:
         now = processes()
         above = children(now)
         for pid in above.get(top, []):
@@ -72,7 +74,7 @@ class Watch:
             self.ticks[key] = max(ticks, self.ticks.get(key, 0))
             self.work[key] = self.work.get(key) or work_of(pid)
 
-    def minutes(self):
+    def minutes(self) -> dict[str, collections.Counter]:
         """Minutes by crate and kind."""
         found = collections.defaultdict(collections.Counter)
         for crate, kind, ticks in [(*self.work[key], it) for key, it in self.ticks.items() if self.work[key]]:
@@ -124,12 +126,9 @@ def show_table(found, cases, whole, since):
     print(f"in {(time.monotonic() - since) / 60:.1f} minutes on {len(os.sched_getaffinity(0))} processors")
 
 
-def main():
-    parser = report.parser(__doc__)
-    parser.add_argument("budget", metavar="MINUTES", type=float, help="the processor minutes that all may take")
-    parser.add_argument("--no-skips", action="store_true", help=f"what is skipped fails, unless {skips.NAME} names it")
-    words = parser.parse_args()
-    budget, since, watch = words.budget, time.monotonic(), Watch()
+def gate(budget: float, may_skip: bool) -> int:
+    """Runs all of it within a budget of processor minutes; returns the status."""
+    since, watch = time.monotonic(), Watch()
     clear_libraries()
     runs = [run(["rt", "ci"], each_second=watch.look, limit=PROOFS)]
     # (its last line counts crates and edits, and not the tests that it runs)
@@ -152,7 +151,15 @@ def main():
     anew = {*re.findall(r"^rt: (\w+) proved$", runs[0].output, re.M)}
     said = f"proved anew: {len(anew)} of {len(program.listed())} crates; the others passed here before\n{compared}"
     failed = int(whole > budget) + int(not is_same)
-    return together(runs, failed, say=lambda: report.tell(f"\n{said}"), may_skip=not words.no_skips)
+    return together(runs, failed, say=lambda: report.tell(f"\n{said}"), may_skip=may_skip)
+
+
+def main() -> int:
+    parser = report.parser(__doc__)
+    parser.add_argument("budget", metavar="MINUTES", type=float, help="the processor minutes that all may take")
+    parser.add_argument("--no-skips", action="store_true", help=f"what is skipped fails, unless {skips.NAME} names it")
+    words = parser.parse_args()
+    return gate(words.budget, not words.no_skips)
 
 
 if __name__ == "__main__":
