@@ -105,6 +105,12 @@ class Ran:
         said = re.findall(r"^([\d,]+ of [\d,]+ [a-z ]+?)(?: tried| measured|,|$)", self.output, re.M)
         return said[-1] if said else ""
 
+    def end_of_failed(self) -> list[str]:
+        """Its last lines, after those before them that name what failed."""
+        lines = self.output.splitlines()
+        named = [line for line in lines[:-LAST] if re.search(r"\bFAILED\b", line)]
+        return [*named[:LAST], *lines[-LAST:]]
+
     def skips(self) -> list[str]:
         """What it said that it skipped, each once."""
         return [*dict.fromkeys(re.findall(r"^\s*skipped: (.*)$", self.output, re.M | re.I))]
@@ -164,7 +170,7 @@ def show_parts(ended):
         report.tell(f"{it.name:30}{it.work:10.1f}{numbers}  {it.part()}".rstrip())
     for it in ended:
         if it.failed:
-            report.tell(f"\n{it.name} failed, and ended so:\n" + "\n".join(it.output.splitlines()[-LAST:]))
+            report.tell("\n".join([f"\n{it.name} failed, and ended so:", *it.end_of_failed()]))
 
 
 def show_skips(ended, left_out):
