@@ -18,12 +18,12 @@ def who(run, words, folder):
     each = {"true": ["true"], "who": [run.file, "--user", "root", "who"]}
     if not skipped("nix-store"):
         each["nix-store --version"] = ["nix-store", "--version"]
-    found = commands(each, 101)
-    median("time", found["who"][0], 0.003)
-    limit("memory", found["who"][1], None, "MiB")
-    versus("next to a process that does nothing", found["true"][0], found["who"][0], None, "true", statistics.median)
-    if theirs := found.get("nix-store --version"):
-        versus("next to its version", theirs[0], found["who"][0], 0.25, "nix-store --version", statistics.median)
+    runs = commands(each, 101)
+    median("time", runs["who"][0], 0.003)
+    limit("memory", runs["who"][1], None, "MiB")
+    versus("next to a process that does nothing", runs["true"][0], runs["who"][0], None, "true", statistics.median)
+    if theirs := runs.get("nix-store --version"):
+        versus("next to its version", theirs[0], runs["who"][0], 0.25, "nix-store --version", statistics.median)
 
 
 def small(run, words, folder):
@@ -32,8 +32,8 @@ def small(run, words, folder):
     Path(f"{folder}/small").write_bytes(nar.archive(b"x" * 300))
     each = {"who": ["--user", "root", "who"], "text-path": ["text-path", "n"], "source-path": ["source-path", "n"],
             "ls": ["ls"], "--help": ["--help"], "help gc": ["help", "gc"]}
-    found = commands({name: [run.file, *it] for name, it in each.items()}, 51, f"{folder}/small")
-    for name, (seconds, _) in found.items():
+    runs = commands({name: [run.file, *it] for name, it in each.items()}, 51, f"{folder}/small")
+    for name, (seconds, _) in runs.items():
         median(name, seconds, 0.005)
 
 
@@ -65,10 +65,10 @@ def contents(run, words, folder):
     with open(path := f"{folder}/contents", "wb") as out:
         put_random(out, MIB16 - 112)
     title("text-path, over 16 MiB of contents")
-    found = hashed({"text-path": [run.file, "text-path", "n"]}, path)
-    limit("memory", found["text-path"][1], 40, "MiB")
-    if "sha256sum" in found:
-        versus("time", found["sha256sum"][0], found["text-path"][0], 1.5, "sha256sum", statistics.median)
+    runs = hashed({"text-path": [run.file, "text-path", "n"]}, path)
+    limit("memory", runs["text-path"][1], 40, "MiB")
+    if "sha256sum" in runs:
+        versus("time", runs["sha256sum"][0], runs["text-path"][0], 1.5, "sha256sum", statistics.median)
 
 
 def archive(run, words, folder):
@@ -78,21 +78,21 @@ def archive(run, words, folder):
         put_random(out, MIB16 - 112)
         out.write(nar.strings(b")"))
     title("source-path and ls, over an archive of 16 MiB")
-    found = hashed({"source-path": [run.file, "source-path", "n"], "ls": [run.file, "ls"]}, path)
-    limit("memory", found["source-path"][1], 64, "MiB")
-    median("ls", found["ls"][0], None)
-    if "sha256sum" in found:
-        theirs = 1.5 * statistics.median(found["sha256sum"][0]) + statistics.median(found["ls"][0])
-        versus("time", theirs, found["source-path"][0], 1, "1.5 times sha256sum, and ls", statistics.median)
+    runs = hashed({"source-path": [run.file, "source-path", "n"], "ls": [run.file, "ls"]}, path)
+    limit("memory", runs["source-path"][1], 64, "MiB")
+    median("ls", runs["ls"][0], None)
+    if "sha256sum" in runs:
+        theirs = 1.5 * statistics.median(runs["sha256sum"][0]) + statistics.median(runs["ls"][0])
+        versus("time", theirs, runs["source-path"][0], 1, "1.5 times sha256sum, and ls", statistics.median)
 
 
 def references(run, words, folder):
-    found = []
+    bases = []
     for at in range(4_096):
         digits = "".join(nar.DIGITS[(at * 2_654_435_761 >> (3 * place)) & 31] for place in range(32))
-        found.append(f"{digits}-reference{at}")
+        bases.append(f"{digits}-reference{at}")
     title("text-path, with 4,096 references")
-    median("time", commands({"text-path": [run.file, "text-path", "n", *found]}, 21)["text-path"][0], 0.02)
+    median("time", commands({"text-path": [run.file, "text-path", "n", *bases]}, 21)["text-path"][0], 0.02)
 
 
 if __name__ == "__main__":

@@ -132,10 +132,10 @@ def shares(words, folder, given=None):
     with open(given or os.devnull, "rb") as source:
         subprocess.run(["valgrind", "--quiet", "--tool=dhat", "--mode=copy", f"--dhat-out-file={file}", *words],
                        stdin=source, stdout=subprocess.DEVNULL, stderr=subprocess.DEVNULL, check=True)
-    found, made = json.loads(Path(file).read_text()), collections.Counter()
-    for place in found["pps"]:
+    profile, made = json.loads(Path(file).read_text()), collections.Counter()
+    for place in profile["pps"]:
         # (the first frame is the copy itself, the second what asks for it)
-        by = found["ftbl"][place["fs"][min(1, len(place["fs"]) - 1)]].partition(": ")[2]
+        by = profile["ftbl"][place["fs"][min(1, len(place["fs"]) - 1)]].partition(": ")[2]
         made["sqlite" if by.startswith("sqlite") else "else"] += place["tb"]
     return made
 
@@ -270,14 +270,14 @@ def openings(run, words, folder):
         return
     few, many = (100, 200) if words.quick else (1000, 2000)
     paths = {it: filled(run, f"{folder}/opened-{it}.db", it, 1024, 3) for it in (few, many)}
-    found = {it: instructions(run.words(path, "list"), folder) for it, path in paths.items()}
-    whole = [sum(found[it][0].values()) for it in (few, many)]
+    counted = {it: instructions(run.words(path, "list"), folder) for it, path in paths.items()}
+    whole = [sum(counted[it][0].values()) for it in (few, many)]
     title(f"instructions of `list` from {few:,} to {many:,} objects of 1 KiB with 3 references")
     limit("for each object", (whole[1] - whole[0]) / (many - few), None, "instructions")
     alone = sum(instructions(run.words(foreign(run, paths[many]), "list"), folder)[0].values())
     limit("of a hundred, the opening by `sqlite` alone", 100 * alone / whole[1], None, "instructions")
-    limit("of a hundred, SHA-256", 100 * hashed(found[many])[0] / whole[1], None, "instructions")
-    for name, count in found[many][0].most_common(8):
+    limit("of a hundred, SHA-256", 100 * hashed(counted[many])[0] / whole[1], None, "instructions")
+    for name, count in counted[many][0].most_common(8):
         note(f"of a hundred: {100 * count / whole[1]:.1f} {name[:90]}")
 
 

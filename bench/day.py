@@ -89,7 +89,7 @@ class Day:
         while not ends.wait(RESTS):
             with contextlib.suppress(OSError, http.client.HTTPException):
                 user.pull()
-        return user.asked
+        return user.requests
 
     def meanwhile(self, pool, call):
         """What users who read see while something else is done: the seconds of that, and of their longest pause."""
@@ -133,14 +133,14 @@ class Day:
 
 def show(day, took):
     """Prints the figures."""
-    asked = [it for user in day.users for it in user.asked]
-    limit("requests of users", len(asked) / day.acting, None, "requests each second")
-    kinds = sorted({it.kind for it in asked})
-    for kind, found in [(kind, [it.took for it in asked if it.kind == kind]) for kind in kinds]:
-        limit(f"{kind}: half of {len(found):,} within", statistics.median(found), None)
-        limit(f"{kind}: 99 of 100 within", statistics.quantiles(found, n=100)[98], None)
+    requests = [it for user in day.users for it in user.requests]
+    limit("requests of users", len(requests) / day.acting, None, "requests each second")
+    kinds = sorted({it.kind for it in requests})
+    for kind, times in [(kind, [it.took for it in requests if it.kind == kind]) for kind in kinds]:
+        limit(f"{kind}: half of {len(times):,} within", statistics.median(times), None)
+        limit(f"{kind}: 99 of 100 within", statistics.quantiles(times, n=100)[98], None)
     for kind in ("whole store", "collection"):
-        limit(f"{kind}: slowest", max(it.took for it in day.root.asked if it.kind == kind), None)
+        limit(f"{kind}: slowest", max(it.took for it in day.root.requests if it.kind == kind), None)
     limit("a backup through the server, with four users who read", took["backup"][0], None)
     limit("their longest pause meanwhile", took["backup"][1], None)
     limit("a restart", took["restart"][0], None)

@@ -46,9 +46,9 @@ def clone(folder, commit):
 def ticks(processors):
     """The ticks that these processors have been busy, and all of them, since the machine started."""
     rows = re.findall(r"^cpu(\d+) (.*)", Path("/proc/stat").read_text(), re.M)
-    found = [[int(word) for word in row.split()[:8]] for number, row in rows if int(number) in processors]
-    whole = sum(map(sum, found))
-    return whole - sum(row[3] + row[4] for row in found), whole
+    counts = [[int(word) for word in row.split()[:8]] for number, row in rows if int(number) in processors]
+    whole = sum(map(sum, counts))
+    return whole - sum(row[3] + row[4] for row in counts), whole
 
 
 def shares(work, seconds, before, after, processors):

@@ -30,15 +30,15 @@ def measured(words, folder, where, *more, is_limited=True):
     given = ["--program", words.file, "--figures", file, *(["--part", "50"] if words.quick else []), *more]
     if subprocess.run([TRIAL, *given], stdin=subprocess.DEVNULL).returncode and not Path(file).exists():
         raise report.Failed(f"{TRIAL} didn't end well")
-    found = json.loads(Path(file).read_text())
-    title(f"a closure of {found['size'] / MIB:,.0f} MiB through nginx and nixkeep-cache, {where}")
+    figures = json.loads(Path(file).read_text())
+    title(f"a closure of {figures['size'] / MIB:,.0f} MiB through nginx and nixkeep-cache, {where}")
     for key, what, peer, least in RATES:
-        ours, theirs = found["found"][key], found["usual"][key]
+        ours, theirs = figures["found"][key], figures["usual"][key]
         put(what, ours, "a second" if key == "records" else "MiB/s", least if is_limited else None,
             {"peer": peer, "theirs": theirs, "ratio": ours / theirs, "spread": None}, is_least=True)
-    limit("`nix copy` up, uncompressed, to nginx that looks at nothing", found["usual"]["put"], None, "MiB/s")
+    limit("`nix copy` up, uncompressed, to nginx that looks at nothing", figures["usual"]["put"], None, "MiB/s")
     for key, what in MEMORY:
-        limit(what, found["found"][key], 64, "MiB")
+        limit(what, figures["found"][key], 64, "MiB")
 
 
 def folder_of_blobs(_, words, folder):
@@ -51,10 +51,10 @@ def bucket(_, words, folder):
         return
     from tests.tools import swift
 
-    found = swift.Swift(f"{folder}/swift")
-    with found.started():
+    service = swift.Swift(f"{folder}/swift")
+    with service.started():
         measured(words, folder, "in a bucket of Swift", "--blobs", f"s3://{swift.BUCKET}/large", "--blobs-endpoint",
-                 found.url, is_limited=False)
+                 service.url, is_limited=False)
 
 
 def begin(words):

@@ -60,13 +60,13 @@ def peak(ours, *words, path):
 
 def rates(ours, name, path, works):
     """Prints the time of each kind of work next to a plain copy, and returns the GB a second of each."""
-    size, plain, found = Path(path).stat().st_size, archive_seconds(ours, path, "copy"), {}
+    size, plain, speeds = Path(path).stat().st_size, archive_seconds(ours, path, "copy"), {}
     title(f"{name}: {size:,} bytes, of which a plain copy takes {plain * 1000:.2f} ms")
     for work in works:
         took = archive_seconds(ours, path, work)
-        found[work] = size / took / 1e9
+        speeds[work] = size / took / 1e9
         versus(f"pieces of {int(work):,}" if work.isdigit() else work, plain, took, None, "a copy")
-    return found
+    return speeds
 
 
 def archives(ours, words, folder):
@@ -82,32 +82,32 @@ def archives(ours, words, folder):
 
 
 def large(ours, paths):
-    found = rates(ours, "one file", paths["one file"], ["read", "write", "list", "65536", "100"])
-    limit("read", Path(paths["one file"]).stat().st_size / found["read"] / 1e9, 0.001)
+    speeds = rates(ours, "one file", paths["one file"], ["read", "write", "list", "65536", "100"])
+    limit("read", Path(paths["one file"]).stat().st_size / speeds["read"] / 1e9, 0.001)
     # A file's contents are counted and not looked at, so here the pieces alone take time.
     for what, work in (("write", "write"), ("checker, pieces of 65,536", "65536"), ("checker, pieces of 100", "100")):
-        limit(what, found[work], 0.5, "GB/s", True)
-    found = rates(ours, "16 MiB of small files", paths["16 MiB of small files"], ["read", "65536", "100"])
-    limit("checker, pieces of 65,536", found["65536"], 0.5, "GB/s", True)
-    limit("checker, time of pieces of 100 next to 65,536", found["65536"] / found["100"], 3, "times")
+        limit(what, speeds[work], 0.5, "GB/s", True)
+    speeds = rates(ours, "16 MiB of small files", paths["16 MiB of small files"], ["read", "65536", "100"])
+    limit("checker, pieces of 65,536", speeds["65536"], 0.5, "GB/s", True)
+    limit("checker, time of pieces of 100 next to 65,536", speeds["65536"] / speeds["100"], 3, "times")
 
 
 def many_files(ours, paths):
     path, works = paths["40,000 small files"], ["read", "write", "list", "65536"]
-    found = rates(ours, "40,000 small files", path, [*works, "100"])
-    limit("read", found["read"], 1, "GB/s", True)
-    limit("write", found["write"], 0.5, "GB/s", True)
+    speeds = rates(ours, "40,000 small files", path, [*works, "100"])
+    limit("read", speeds["read"], 1, "GB/s", True)
+    limit("write", speeds["write"], 0.5, "GB/s", True)
     # Where the time of 16 times the files were quadratic, a file would take 16 times as long.
     few = rates(ours, "2,500 small files", paths["2,500 small files"], works)
     for work in few:
-        limit(f"{work}: time of one of 40,000 next to one of 2,500", few[work] / found[work], 6, "times")
+        limit(f"{work}: time of one of 40,000 next to one of 2,500", few[work] / speeds[work], 6, "times")
     if skipped("nix"):
         return
     listing = ["nix", "--extra-experimental-features", "nix-command", "nar", "ls", "-R", path, "/"]
     theirs = command_seconds(listing, path)
     versus("the whole command that lists", theirs, command_seconds([ours.file, "archives", "list"], path), None,
            "nix nar ls -R")
-    versus("read", theirs, Path(path).stat().st_size / found["read"] / 1e9, 0.1, "nix nar ls -R")
+    versus("read", theirs, Path(path).stat().st_size / speeds["read"] / 1e9, 0.1, "nix nar ls -R")
 
 
 def depth(ours, paths):

@@ -61,7 +61,7 @@ def each_action(objects, at):
     """Each action by its name."""
     path, live = f"{STORE}/{base(at)}", f"{STORE}/{base(objects - 1)}"
     written = f'builtins.toFile "text{at}" "{"x" * 1024}{at}"'
-    found = {
+    rows = {
         "add a file": (("add-source", f"new{at}"), "nar", "POST", "/source", "source", ("nix-store", "--add", "new")),
         "add a text": (("add-text", f"text{at}"), "text", "POST", "/text", "named", (*EVAL, written)),
         "query": (("info", live), None, "GET", f"/info/{live.rpartition('/')[2]}", None,
@@ -75,7 +75,7 @@ def each_action(objects, at):
         "delete": (("delete", path), None, "POST", "/delete", "path", ("nix-store", "--delete", path)),
         "gc": (("gc",), None, "POST", "/collect", "nothing", ("nix-store", "--gc")),
     }
-    return {name: Action(*it) for name, it in found.items()}
+    return {name: Action(*it) for name, it in rows.items()}
 
 
 def put_files(folder):
@@ -92,13 +92,13 @@ def put_files(folder):
 
 def by(objects, words_of, env=None):
     """The seconds of each action, by its words and their input."""
-    found = collections.defaultdict(list)
+    times = collections.defaultdict(list)
     for name in each_action(objects, 0):
         # (a collection leaves nothing for another one)
         for at in range(1 if name == "gc" else rounds_of(objects)):
             words, source = words_of(each_action(objects, at)[name], at)
-            found[name].append(command(words, source, env)[0])
-    return found
+            times[name].append(command(words, source, env)[0])
+    return times
 
 
 def by_command(run, files, path, objects):
@@ -121,10 +121,10 @@ def by_curl(run, files, path, objects):
 
 def by_nix(nix, files, objects):
     named = lambda words, at: [files(word, at) if word == "new" else word for word in words]
-    found = by(objects, lambda it, at: (named(it.theirs, at), None), nix.env)
+    times = by(objects, lambda it, at: (named(it.theirs, at), None), nix.env)
     left = sum(name != ".links" for name in os.listdir(nix.place(STORE)))
     report.same("what is left of a collection by Nix", left, objects - objects // 2)
-    return found
+    return times
 
 
 def nix_filled(folder, objects, roots):
@@ -168,19 +168,19 @@ def nix_crashed(nix, files):
 
 def opened_again(pairs, words, env=None):
     """The time of a command over files that are laid down as they were left, each time."""
-    found = []
+    times = []
     for _ in range(ROUNDS):
         for kept, path in pairs:
             shutil.copy(kept, path)
-        found.append(command(words, None, env)[0])
-    return found
+        times.append(command(words, None, env)[0])
+    return times
 
 
 def after_crash(run, files, path, nix, objects):
     """The times of nixkeep and of Nix, by a command that asks for one object."""
-    left, again, asked = crashed(run, path), f"{path}-again", each_action(objects, 0)["query"]
-    ours = opened_again([(left + end, again + end) for end in ("", "-wal")], run.words(again, *asked.ours))
-    return ours, nix and opened_again(nix_crashed(nix, files), asked.theirs, nix.env)
+    left, again, query = crashed(run, path), f"{path}-again", each_action(objects, 0)["query"]
+    ours = opened_again([(left + end, again + end) for end in ("", "-wal")], run.words(again, *query.ours))
+    return ours, nix and opened_again(nix_crashed(nix, files), query.theirs, nix.env)
 
 
 # ---- all of them
@@ -193,14 +193,14 @@ def measured(run, folder, objects, words):
     files, path = put_files(room), filled(run, f"{room}/store.db", objects, 1024, 3, roots, is_ring=False)
     nix = nix_filled(f"{room}/nix", objects, roots) if words.is_there else None
     ours, theirs = after_crash(run, files, shutil.copy(path, f"{room}/crash.db"), nix, objects)
-    found = {name: way(run, files, shutil.copy(path, f"{room}/{name}.db"), objects)
+    times = {name: way(run, files, shutil.copy(path, f"{room}/{name}.db"), objects)
              for name, (way, _) in WAYS.items() if name != "curl" or words.has_curl}
-    found["command"]["open after a crash"] = ours
+    times["command"]["open after a crash"] = ours
     if nix:
-        found["nix"] = {**by_nix(nix, files, objects), "open after a crash": theirs}
+        times["nix"] = {**by_nix(nix, files, objects), "open after a crash": theirs}
         nix.clear()
     shutil.rmtree(room)
-    return found
+    return times
 
 
 def show(times, objects, way, what):
@@ -227,16 +227,16 @@ WAYS = {"command": (by_command, "by a command"), "remote": (by_remote, "by nixke
 
 def actions(run, words, folder):
     sizes = [100, 1000, *[10_000] * (not words.quick), *[100_000] * words.large]
-    words.has_curl, found = not skipped("curl"), {}
+    words.has_curl, times = not skipped("curl"), {}
     for objects in sizes:
-        found[objects] = measured(run, folder, objects, words)
-        for way in [it for it in WAYS if it in found[objects]]:
-            show(found[objects], objects, way, WAYS[way][1])
+        times[objects] = measured(run, folder, objects, words)
+        for way in [it for it in WAYS if it in times[objects]]:
+            show(times[objects], objects, way, WAYS[way][1])
     for way, (_, what) in WAYS.items():
-        exponents(found, way, what)
-    exponents(found, "nix", "by Nix", False)
+        exponents(times, way, what)
+    exponents(times, "nix", "by Nix", False)
     title(f"{sizes[0]} objects, the subcommands by nixkeep-remote")
-    limit("the slowest of them", max(map(statistics.median, found[sizes[0]]["remote"].values())), REMOTE)
+    limit("the slowest of them", max(map(statistics.median, times[sizes[0]]["remote"].values())), REMOTE)
     title("what clients take that ask for nothing")
     python = Path(run.remote).read_text().partition("\n")[0].removeprefix("#!").split()
     limit("python3", seconds([*python, "-c", "pass"]), None, of=statistics.median)
@@ -269,10 +269,10 @@ def tls(run, words, folder):
             at, named = f"https://127.0.0.1:{port}", ["--cacert", cert, "--header", "store-user: root"]
             each = {"remote": [run.remote, "--server", at, "--ca", cert, "--as", "root", "info", base(7)],
                     "curl": ["curl", "--silent", "--fail", *named, f"{at}/info/{base(7)}"]}
-            found = {name: times for name, (times, _) in commands(each, 3 * ROUNDS).items()}
+            by_tool = {name: times for name, (times, _) in commands(each, 3 * ROUNDS).items()}
     title("a query by nixkeep-remote over https")
     what, of = "next to curl with the same certificate", statistics.median
-    versus(what, found["curl"], found["remote"], OVER_TLS, "curl", of)
+    versus(what, by_tool["curl"], by_tool["remote"], OVER_TLS, "curl", of)
 
 
 # ---- archives

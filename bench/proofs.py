@@ -62,14 +62,14 @@ def unproved(crate, said):
 
 def timed(crate, named, room):
     """The functions of a crate with the seconds of each, in the order of the check."""
-    ran, said, found, last = start(crate, named, room, "--progress"), [], [], 0
+    ran, said, spans, last = start(crate, named, room, "--progress"), [], [], 0
     for name, now in lines_of(ran, said):
-        found.append((now - last, crate, f"{'' if found else FIRST}{name.removeprefix(f'{crate}::')}"))
+        spans.append((now - last, crate, f"{'' if spans else FIRST}{name.removeprefix(f'{crate}::')}"))
         last = now
     _, status, used = os.wait4(ran.pid, 0)
     if status:
         raise unproved(crate, said)
-    return [*found, (used.ru_utime + used.ru_stime - last, crate, AFTER)]
+    return [*spans, (used.ru_utime + used.ru_stime - last, crate, AFTER)]
 
 
 def parted(crate, named, room):
@@ -97,7 +97,7 @@ def show(by_crate, above, what):
     limit("together", sum(sums.values()), None)
 
 
-def asked(named):
+def arguments(named):
     parser = report.parser(__doc__)
     add_records(parser)
     parser.add_argument("crates", nargs="*", metavar="CRATE", help="a crate of crates.txt")
@@ -113,7 +113,7 @@ def asked(named):
 
 def main():
     named = program.listed()
-    words = asked(named)
+    words = arguments(named)
     crates = words.crates or [*named]
     below = {it for crate in crates for it in program.with_below(crate, named)[:-1]}
     program.prove(sorted(below))

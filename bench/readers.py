@@ -68,7 +68,7 @@ def processor(copies):
     return sum(processor_of(server.running.pid) for server, _ in copies)
 
 
-def asked(folder, port, targets, seconds):
+def load_of(folder, port, targets, seconds):
     """A run of wrk, which asks for these in turn."""
     Path(f"{folder}/targets").write_text("".join(f"{target}\n" for target in targets))
     says = "".join(f'wrk.headers["{key}"] = "{value}"\n' for key, value in SAYS.items())
@@ -144,18 +144,18 @@ def measured(folder, copies, wanted, seconds):
             with of_team(folder, places(copies), kept) as proxy:
                 fill(proxy.port, targets, f"{folder}/files")
                 before = processor(copies)
-                out = asked(folder, proxy.port, targets, seconds)
+                out = load_of(folder, proxy.port, targets, seconds)
                 spent = processor(copies) - before
             if not kept:
                 show(f"{what}, {how}", out, spent)
                 continue
             with of_team(folder, places(copies), files=f"{folder}/files") as files:
-                theirs = asked(folder, files.port, targets, seconds)
+                theirs = load_of(folder, files.port, targets, seconds)
             show(f"{what}, {how}", out, spent, OF_FILES, peer=("nginx, files", theirs))
     with of_team(folder, places(copies), "2s") as proxy:
         fill(proxy.port, wanted["archives"])
         before = processor(copies)
-        out = asked(folder, proxy.port, wanted["archives"], seconds)
+        out = load_of(folder, proxy.port, wanted["archives"], seconds)
         show("archives, confirmed every 2 s", out, processor(copies) - before, is_fair=False)
     with of_team(folder, places(copies), "2s") as proxy:
         fill(proxy.port, wanted["records"])
@@ -177,7 +177,7 @@ def away(folder, copies, port, targets, seconds):
 
     other = threading.Thread(target=stop_and_start)
     other.start()
-    out = asked(folder, port, targets, seconds + AWAY)
+    out = load_of(folder, port, targets, seconds + AWAY)
     other.join()
     show("records kept for 2 s, ten seconds without servers", out, sum(spent) + processor(copies), is_fair=False)
 
@@ -215,14 +215,14 @@ def alone(_, words, folder):
     targets = targets_of(f"{folder}/store.db")
     port = free_port()
     with Serving(port, "/usr/bin/python3", "-c", BARE, str(port)):
-        theirs = asked(folder, port, targets["records"], words.seconds)
+        theirs = load_of(folder, port, targets["records"], words.seconds)
     title(f"{CLIENTS} clients of nixkeep-cache alone over {words.objects:,} objects")
     with parts.server(words.file, folder, f"{folder}/store.toml", f"{folder}/store.db") as server, \
             parts.cache(folder, server.place) as cache:
         fill(cache.place, targets["records"])
         for what, asked_for in targets.items():
             before = processor([(server, cache)])
-            out = asked(folder, cache.place, asked_for, words.seconds)
+            out = load_of(folder, cache.place, asked_for, words.seconds)
             show(what, out, processor([(server, cache)]) - before, ALONE if what == "records" else None)
             at_once = f"{what}: next to aiohttp that answers at once"
             versus(at_once, theirs.rate, out.rate, None, "that", max, "a second")

@@ -42,16 +42,16 @@ def copied(path):
 def add_by_sqlite(path, count):
     """Seconds of `count` adds by C SQLite, each in a transaction: of the inserts, an object and its three references;
     and with both digests."""
-    start, found = time.perf_counter(), []
+    start, rows = time.perf_counter(), []
     for number in range(count):
         contents = b"%1024d" % number
         nar = archive(contents)
         hashlib.sha256(contents).digest()
-        found.append((base(1_000_000 + number), nar, hashlib.sha256(nar).digest()))
+        rows.append((base(1_000_000 + number), nar, hashlib.sha256(nar).digest()))
     hashed = time.perf_counter() - start
     with opened(path) as conn:
         start = time.perf_counter()
-        for name, nar, digest in found:
+        for name, nar, digest in rows:
             conn.execute("BEGIN")
             insert(conn, name, nar, digest)
             refer(conn, name, range(3))
@@ -89,10 +89,10 @@ def adds(run, words, folder):
     theirs, ours, beyond, more = [], [], [], []
     for _ in range(ROUNDS):
         theirs.append(add_by_sqlite(copied(few), 1000))
-        for path, found in ((few, ours), (many, more)):
+        for path, times in ((few, ours), (many, more)):
             with served(run, copied(path)) as server:
                 ask = functools.partial(server.client.ask, "POST", "/text")
-                found.append(timed(lambda: [ask(text_body(number)) for number in range(1000)]))
+                times.append(timed(lambda: [ask(text_body(number)) for number in range(1000)]))
         first, again = added_twice(run, copied(few), folder)
         beyond.append(first - again)
     inserts, both = zip(*theirs)
@@ -110,8 +110,8 @@ def walks(run, words, folder):
         for target, most in (("/live", 0.01), ("/paths", 0.002)):
             limit(f"GET {target}", rounds(server.client.get, target), most)
     path = filled(run, f"{folder}/collect.db", 5000, 1024, 0, roots=range(1952))
-    found = deletes(run, path, range(1952, 5000), "/collect")
-    versus("a collection of 3,048 of 5,000 objects", *found, 4, "deletes by C SQLite")
+    times = deletes(run, path, range(1952, 5000), "/collect")
+    versus("a collection of 3,048 of 5,000 objects", *times, 4, "deletes by C SQLite")
 
 
 def deletes(run, path, numbers, *requests):

@@ -57,7 +57,7 @@ class Service:
         self.running.terminate()
 
 
-def asked(port, method, target, given=None):
+def request(port, method, target, given=None):
     """The status of a request on a connection of its own; 0 where no reply came."""
     connection = http.client.HTTPConnection("127.0.0.1", port, timeout=330)
     try:
@@ -74,55 +74,55 @@ def asked(port, method, target, given=None):
 def gap(made, words, folder):
     """The time between the last answer of a server and the first of the next, thrice."""
     with Service(words.program, folder, 200) as service:
-        found, last, failed = [], time.perf_counter(), False
-        while len(found) < 3:
-            status, now = asked(service.port, "GET", f"/info/{made[-1]}"), time.perf_counter()
+        gaps, last, failed = [], time.perf_counter(), False
+        while len(gaps) < 3:
+            status, now = request(service.port, "GET", f"/info/{made[-1]}"), time.perf_counter()
             if status == 200:
                 if failed:
-                    found.append(now - last)
+                    gaps.append(now - last)
                 last, failed = now, False
             else:
                 failed = True
                 time.sleep(0.002)
     title(f"a server of {len(made):,} objects has used up its connections, and is started again")
-    limit("time without answers, with RestartSec=1s", found, None)
-    limit("the start and the opening of the file, in that", [it - RESTART for it in found], None)
+    limit("time without answers, with RestartSec=1s", gaps, None)
+    limit("the start and the opening of the file, in that", [it - RESTART for it in gaps], None)
 
 
 @contextlib.contextmanager
 def load(port, made, count=8):
     """Clients that read and add meanwhile: the status of each request, and its seconds."""
-    found, is_over = [], threading.Event()
+    replies, is_over = [], threading.Event()
 
     def client(number):
         rng, at = random.Random(number), 0
         while not is_over.is_set():
             at, began = at + 1, time.perf_counter()
             read, add = ("GET", f"/info/{rng.choice(made)}"), ("POST", "/text", f"name: text{number}-{at}\n\n{at}\n")
-            found.append((asked(port, *(read if at % 10 else add)), time.perf_counter() - began))
+            replies.append((request(port, *(read if at % 10 else add)), time.perf_counter() - began))
 
     with ThreadPoolExecutor(count) as pool:
         for number in range(count):
             pool.submit(client, number)
         try:
-            yield found
+            yield replies
         finally:
             is_over.set()
 
 
 def loaded(what, folder, entries, service, made, most=None):
     """What clients of nginx, as its proxy, see while the service is restarted three times."""
-    with nginx(folder, FRONT, f"upstream store {{ {entries} }}") as front, load(front.port, made) as found:
+    with nginx(folder, FRONT, f"upstream store {{ {entries} }}") as front, load(front.port, made) as replies:
         for _ in range(3):
             time.sleep(2)
             service.restart()
             parts.until("the server ends", lambda: not parts.is_open(service.port))
             parts.until("the server listens again", lambda: parts.is_open(service.port))
         time.sleep(2)
-    failed = [status for status, _ in found if status != 200]
-    note(f"{len(found):,} requests; of those that failed: {sorted(set(failed)) or 'none'}")
+    failed = [status for status, _ in replies if status != 200]
+    note(f"{len(replies):,} requests; of those that failed: {sorted(set(failed)) or 'none'}")
     limit(f"{what}: requests that failed", len(failed), most, "requests")
-    limit(f"{what}: the slowest answer", max(seconds for _, seconds in found), None)
+    limit(f"{what}: the slowest answer", max(seconds for _, seconds in replies), None)
 
 
 def stopped(made, words, folder):

@@ -82,9 +82,9 @@ class Curl:
         if ran.returncode != status:
             report.fail(f"curl ended with {ran.returncode}: {ran.stderr[-2000:]}")
         measured = [line.split() for line in ran.stdout.splitlines()]
-        found = [Reply(head.read_bytes(), text.read_bytes(), int(connects), float(seconds))
-                 for (head, text), (connects, seconds) in zip(files, measured, strict=True)]
-        return found, ran.stderr
+        replies = [Reply(head.read_bytes(), text.read_bytes(), int(connects), float(seconds))
+                   for (head, text), (connects, seconds) in zip(files, measured, strict=True)]
+        return replies, ran.stderr
 
 
 @pytest.fixture
@@ -125,9 +125,9 @@ def test_routes(program, folder, curl):
         ran = stores[0].run(*it.words, given=it.given, user=it.user, options=options)
         try_route(it, one, each, *ran)
     for word in ("list", "roots", "live", "dead", "report"):
-        found = [store.run(word, options=options) for store in stores]
-        same(f"{word} over one connection", found[1], found[0])
-        same(f"{word} over a connection for each", found[2], found[0])
+        printed = [store.run(word, options=options) for store in stores]
+        same(f"{word} over one connection", printed[1], printed[0])
+        same(f"{word} over a connection for each", printed[2], printed[0])
 
 
 def ask_twice(file, options, folder, curl, made):
@@ -157,10 +157,10 @@ def test_methods(program, curl):
     """Methods that a route doesn't have; targets without a route."""
     line = b"refused: 40 bad-method\n"
     targets = {re.sub(r"\{\w+\}", "7", pattern): methods for pattern, methods in routes().items()}
-    asked = [(other, target, line, 405, methods) for target, methods in targets.items()
-             for other in ("GET", "POST", "DELETE", "PUT", "HEAD") if other not in methods]
+    denied = [(other, target, line, 405, methods) for target, methods in targets.items()
+              for other in ("GET", "POST", "DELETE", "PUT", "HEAD") if other not in methods]
     none = ["/", "/path", "/paths/", "/paths?all=1", "/info/a/b", "/p%61ths", "/nix-cache-info"]
-    every = [*asked, *[("GET", target, b"refused: 39 no-route\n", 404, None) for target in none]]
+    every = [*denied, *[("GET", target, b"refused: 39 no-route\n", 404, None) for target in none]]
     with serving("methods", program, [], 1) as port:
         replies, _ = curl(port, [("ann", method, target, b"") for method, target, *_ in every])
     for (method, target, wanted, status, allow), reply in zip(every, replies):
@@ -178,16 +178,16 @@ def body_keys():
     """The keys of each body as the table there has them: how often each may occur, by route; and whether a payload
     follows."""
     rooted = ["/root/permanent/{name}", "/root/user/{user}/{name}", "/profile/{user}/{name}", "/temp/{user}/{s}"]
-    table, found = REFERENCE.partition("| Body of |")[2].partition("\n\n")[0], {}
+    table, forms = REFERENCE.partition("| Body of |")[2].partition("\n\n")[0], {}
     for of, keys, payload in re.findall(r"^\| (.*) \| (.*) \| (.*) \|$", table, re.M):
         many = {}
         for some, words in re.findall(r"((?:`[a-z-]+`(?:, )?)+) (at most once|once|any number of times)", keys):
             many.update(dict.fromkeys(re.findall(r"`([a-z-]+)`", some), words))
         for route in re.findall(r"`(/[^`]*)`", of) or (rooted if of.startswith("what sets") else []):
-            found[route] = many, payload != "none"
-    same("bodies of the reference", sorted(found),
+            forms[route] = many, payload != "none"
+    same("bodies of the reference", sorted(forms),
          sorted(["/text", "/source", "/import", "/runtime", "/collect", "/delete", *rooted]))
-    return found
+    return forms
 
 
 def some_bodies():
@@ -237,8 +237,8 @@ def test_connections(program, curl):
     same("a connection that curl says to use again", len(re.findall(r"^\* Re-?using existing ", said, re.M | re.I)), 2)
     same("connections that close", [it.connects for it in closed], [1, 1, 1])
     same("connections of HTTP/1.0", [it.connects for it in old], [1, 1, 1])
-    for found, closes in ((kept, False), (closed, True), (old, True)):
-        for reply in found:
+    for replies, closes in ((kept, False), (closed, True), (old, True)):
+        for reply in replies:
             answers("GET /paths", reply, b"", closes=closes)
 
 

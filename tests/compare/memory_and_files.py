@@ -24,14 +24,14 @@ def drawn(seed):
     """A configuration, and requests that meet one another, as the scenarios of the model have them, most of which fit
     what is there by then."""
     rng, scenarios = random.Random(seed), Scenarios()
-    config, found = scenarios.server_config(rng), []
-    while len(found) < LENGTH:
+    config, requests = scenarios.server_config(rng), []
+    while len(requests) < LENGTH:
         it = scenarios.request(*scenarios.by_chance(rng))
-        asked = (it.user, *scenarios.target(it), scenarios.body(it))
+        request = (it.user, *scenarios.target(it), scenarios.body(it))
         # (the model does it too; of a head that it doesn't read it has no reply to go on after)
-        if not server.serve(scenarios.store, message(*asked))[1]:
-            found.append(asked)
-    return config, found
+        if not server.serve(scenarios.store, message(*request))[1]:
+            requests.append(request)
+    return config, requests
 
 
 def served(file, options, requests):
@@ -70,8 +70,8 @@ def try_list(file, folder, name, requests, config):
         came = {"a file that is opened anew": [*served(file, anew, [request]), *served(file, anew, STATE)],
                 "a file that stays open": is_open.ask([request, *STATE]),
                 "a copy of that": [wanted[0], *served(file, [*options, "--db", copy(at("-open"), at("-copy"))], STATE)]}
-        for where, found in came.items():
-            for question, one, other in zip((request, *STATE), wanted, found):
+        for where, replies in came.items():
+            for question, one, other in zip((request, *STATE), wanted, replies):
                 what = f"list {name}, request {number}, {request[:3]!r}: {question[:3]!r} in {where}"
                 report.same(what, other, one)
     is_open.end()

@@ -30,8 +30,8 @@ def some_text(rng, alphabet, sizes):
 
 
 def name(rng, alphabet):
-    found = some_text(rng, alphabet, [1, 1, 2, 3, 8, 9, 40])
-    return name(rng, alphabet) if found in (b".", b"..") or found.startswith(b"-") else os.fsdecode(found)
+    text = some_text(rng, alphabet, [1, 1, 2, 3, 8, 9, 40])
+    return name(rng, alphabet) if text in (b".", b"..") or text.startswith(b"-") else os.fsdecode(text)
 
 
 def grow(rng, path, alphabet):

@@ -172,9 +172,9 @@ def compare_objects(graph):
 
 def settings(folder, outputs, derivations):
     """The options of both for keep settings."""
-    found = {"keep-outputs": str(outputs).lower(), "keep-derivations": str(derivations).lower()}
-    Path(path := f"{folder}/keep.toml").write_text("".join(f"{key} = {it}\n" for key, it in found.items()))
-    return ["--config", path], [word for pair in found.items() for word in ("--option", *pair)]
+    values = {"keep-outputs": str(outputs).lower(), "keep-derivations": str(derivations).lower()}
+    Path(path := f"{folder}/keep.toml").write_text("".join(f"{key} = {it}\n" for key, it in values.items()))
+    return ["--config", path], [word for pair in values.items() for word in ("--option", *pair)]
 
 
 def compare_liveness(graph, outputs, derivations):

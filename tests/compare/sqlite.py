@@ -135,7 +135,7 @@ def ours_first(rng, file, path):
     old = store.database.final_rows()
     for name in ("objects", "permanent", "user", "profiles", "runtime", "temporary"):
         setattr(store.world, name, getattr(more, name) | getattr(store.world, name))
-    put(path, {table: found - old[table] for table, found in store.database.final_rows().items()}, last=AFTER)
+    put(path, {table: of_table - old[table] for table, of_table in store.database.final_rows().items()}, last=AFTER)
     store.compare(rng, "made here, rows put by SQLite")
     if is_beside:
         same("rows of a foreign table", sqlite(path, "SELECT t FROM note ORDER BY id;"), "x\ny\n", path)
@@ -237,13 +237,13 @@ def test_texts_that_are_no_utf_8(program, folder, sound):
 
 def forms_of(conn):
     """What SQLite shows of the store's tables: their columns and keys."""
-    found = {}
+    forms = {}
     for table in TABLES:
         keys = [name for _, name, _, origin, _ in conn.execute(f"PRAGMA index_list({table})") if origin == "pk"]
-        found[table] = (conn.execute(f"SELECT type, ncol, wr, strict FROM pragma_table_list('{table}')").fetchall(),
+        forms[table] = (conn.execute(f"SELECT type, ncol, wr, strict FROM pragma_table_list('{table}')").fetchall(),
                         conn.execute(f"PRAGMA table_info({table})").fetchall(),
                         [conn.execute(f"PRAGMA index_xinfo({name})").fetchall() for name in keys])
-    return found
+    return forms
 
 
 def third(store, rng, what):

@@ -38,27 +38,27 @@ class Side:
         self.config = scenarios.server_config(rng)
         # (a list of each kind comes on one connection, so nothing that others ask comes between)
         self.clients = [[[message(*it) for it in [*requests(), *kept()]]], *[[] for _ in range(1, CLIENTS)]]
-        for asked in [client for _ in range(CONNECTIONS) for client in self.clients]:
-            asked.append(self.connection(scenarios, rng))
+        for connections in [client for _ in range(CONNECTIONS) for client in self.clients]:
+            connections.append(self.connection(scenarios, rng))
         # The connections in the order in which they were served: a client, which of its own it was, and its replies.
         self.served = []
 
     def connection(self, scenarios, rng):
         """What is asked on a connection, most of which fits what is there by then. The first closes no connection: the
         order is written down when its reply has come."""
-        asked = [message(*rng.choice(STATE))]
+        messages = [message(*rng.choice(STATE))]
         for _ in range(rng.randint(1, MESSAGES)):
-            asked.append(scenarios.message(*scenarios.by_chance(rng)))
-            if server.serve(scenarios.store, asked[-1])[1]:
+            messages.append(scenarios.message(*scenarios.by_chance(rng)))
+            if server.serve(scenarios.store, messages[-1])[1]:
                 break
-        return asked
+        return messages
 
     def wanted(self):
         """The replies of the model, connection by connection as they were served, and the rows that it has then."""
-        store, found = Store(policy.config_of(self.config), World()), []
+        store, replies = Store(policy.config_of(self.config), World()), []
         for client, number, _ in self.served:
-            found.append([b"".join(server.serve(store, it)[0]) for it in self.clients[client][number]])
-        return found, tables.rows_of(store.world, store.dir)
+            replies.append([b"".join(server.serve(store, it)[0]) for it in self.clients[client][number]])
+        return replies, tables.rows_of(store.world, store.dir)
 
 
 def reply(connection):
@@ -79,13 +79,13 @@ def ask(running, side, client, both, start):
     """Makes the connections of a client one after another, and writes down each in the order of those of its server,
     and its server in the order of both."""
     start.wait()
-    for number, asked in enumerate(side.clients[client]):
+    for number, messages in enumerate(side.clients[client]):
         with running.connect() as connection:
             came = []
-            for it in asked:
+            for it in messages:
                 with contextlib.suppress(OSError):
                     connection.sendall(it)
-                    if len(came) == len(asked) - 1:
+                    if len(came) == len(messages) - 1:
                         # (so what is no whole head is answered, and not waited for)
                         connection.shutdown(socket.SHUT_WR)
                 came.append(reply(connection))
@@ -114,18 +114,18 @@ def compare(what, side, path):
     done, (wanted, rows) = set(), side.wanted()
     report.same(f"{what}: the connections", len(side.served), sum(map(len, side.clients)))
     for at, ((client, number, came), meant) in enumerate(zip(side.served, wanted)):
-        for asked, one, other in zip(side.clients[client][number], came, meant):
-            report.same(f"{what}, connection {at}, of client {client}: the reply to {asked[:300]!r}", one, other)
+        for request, one, other in zip(side.clients[client][number], came, meant):
+            report.same(f"{what}, connection {at}, of client {client}: the reply to {request[:300]!r}", one, other)
             if b" 200 " in one.partition(b"\r\n")[0]:
-                done.add(kind_of(asked))
+                done.add(kind_of(request))
     report.same(f"{what}: the rows in the end", runs.rows_in(path), rows)
     return done
 
 
-def kind_of(asked):
+def kind_of(request):
     """The kind of a request; None where it has none."""
     with contextlib.suppress(ValueError, server.Refused):
-        method, target, *_ = server.head_of(asked)
+        method, target, *_ = server.head_of(request)
         return server.route_of(target)[0].get(method)
     return None
 

@@ -40,5 +40,5 @@ def came(program, given, at):
 def test_each_cut(program, some, name, given, wanted):
     places = some(len(given) - 1, name)
     with ProcessPoolExecutor(len(os.sched_getaffinity(0))) as pool:
-        for at, found in zip(places, pool.map(functools.partial(came, program, given), places, chunksize=16)):
-            report.same(f"{name}, cut after byte {at}", found, (wanted, 0))
+        for at, result in zip(places, pool.map(functools.partial(came, program, given), places, chunksize=16)):
+            report.same(f"{name}, cut after byte {at}", result, (wanted, 0))

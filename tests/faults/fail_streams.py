@@ -72,7 +72,7 @@ class Session:
     """Messages one after the other; what is written for them; and what each number of them leaves in a file."""
 
     def __init__(self, tried, name, requests):
-        self.name, self.asked, self.given = name, requests, messages(requests)
+        self.name, self.requests, self.given = name, requests, messages(requests)
         self.ends = [*itertools.accumulate(len(message(*request)) for request in requests)]
         # (the head of a message ends before its body)
         self.heads = [end - len(it[3]) if len(it) > 3 else end for it, end in zip(requests, self.ends)]
@@ -186,8 +186,8 @@ class Fault:
     def settings(self, tried, at):
         """A name for the run, and the settings of the library."""
         name = f"{self.name()}-{at}".replace(" ", "-").replace(":", "")
-        found = {"counts": tried.path(f"{name}-counts"), "STREAM": self.stream, "FAULT": self.kind, "FAULT_AT": at}
-        return name, found | ({"ONE_BYTE": 1} if self.one_byte else {})
+        variables = {"counts": tried.path(f"{name}-counts"), "STREAM": self.stream, "FAULT": self.kind, "FAULT_AT": at}
+        return name, variables | ({"ONE_BYTE": 1} if self.one_byte else {})
 
 
 def taken_at(tried, faults):
@@ -209,7 +209,7 @@ def meant(fault, taken):
     """Status, output and errors that are meant, and how many messages have been answered."""
     session = fault.session
     if taken is None or fault.kind == "takes one byte":
-        return 0, session.written, b"", len(session.asked)
+        return 0, session.written, b"", len(session.requests)
     if fault.stream in ("write", "send"):
         return 1, session.written[:taken], OUTPUT, session.of_output(taken)
     if fault.kind == "takes none":
@@ -253,7 +253,7 @@ def try_connecting(tried, fault, at):
         return "it doesn't come to the fault"
     if (status, errors) != ((1, INPUT) if is_over or not is_read else (0, b"")):
         return f"status {status}, {errors!r}"
-    count = len(session.asked) if clients and is_read else 0
+    count = len(session.requests) if clients and is_read else 0
     wanted = [session.written if is_read else b"", session.states[count]][: len(clients)]
     if [*came[:1], *map(state_of, came[1:])] != wanted:
         return f"clients are answered {came!r}"

@@ -48,10 +48,10 @@ class Target(Server):
         super().__init__(file, "--config", config, "--db", f"{room}/store.db", **how)
         self.large, self.wrong = "0" * 32 + "-large", []
 
-    def asks(self, *asked):
+    def asks(self, *request):
         """What comes on a connection of its own for a message, up to its end."""
         with self.connect() as it:
-            return last_reply(it, *asked)
+            return last_reply(it, *request)
 
 
 # ---- hostile clients: each is given a server and a time to end at
@@ -121,9 +121,9 @@ def silent(server, until):
         wait(until)
 
 
-def answered(asked, server, until):
+def answered(requests, server, until):
     """Large bodies, each of one piece again and again, which have to be answered so."""
-    for user, target, piece, wanted in asked:
+    for user, target, piece, wanted in requests:
         if time.monotonic() < until:
             came = server.asks(user, "POST", target, piece * (LARGE // len(piece)))
             if wanted not in came:
@@ -132,10 +132,10 @@ def answered(asked, server, until):
 
 def resets(server, until):
     """Connections that are reset within a head, a body and a reply."""
-    asked = [b"GET /pa", message("ann", "POST", "/text", bytes(9999))[:-99],
-             message("ann", "GET", f"/nar/{server.large}")]
+    messages = [b"GET /pa", message("ann", "POST", "/text", bytes(9999))[:-99],
+                message("ann", "GET", f"/nar/{server.large}")]
     while time.monotonic() < until:
-        for given in asked:
+        for given in messages:
             with server.connect() as it:
                 it.setsockopt(socket.SOL_SOCKET, socket.SO_LINGER, struct.pack("ii", 1, 0))
                 it.sendall(given)

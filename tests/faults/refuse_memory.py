@@ -79,8 +79,8 @@ def refusing(program, shared_folder, some):
 def texts_of(came, is_server):
     """What a run has said: its output and errors, of a server the one reply's text and the errors."""
     _, output, errors = came
-    found, left = replies(output) if is_server else ([], output)
-    return sorted([b"".join(text for _, text in found) + left, errors])
+    complete, left = replies(output) if is_server else ([], output)
+    return sorted([b"".join(text for _, text in complete) + left, errors])
 
 
 # ---- lines
@@ -173,7 +173,7 @@ class Served:
         return None
 
 
-ASKED = named()
+REQUESTS = named()
 
 
 @pytest.fixture(scope="module")
@@ -185,18 +185,18 @@ def served(refusing):
 def before_each(served):
     """The file that each request finds, and what the store says then: no file, and nothing, before the first."""
     states = []
-    for number, (_, settings, asked) in enumerate(ASKED):
+    for number, (_, settings, request) in enumerate(REQUESTS):
         served.refusing.put("settings.toml", settings)
         is_there = Path(served.path).exists()
         kept = copy(served.path, served.refusing.at(f"found-{number}.db"))
         states.append((kept, served.state(copy(kept, served.spare)) if is_there else None))
-        served.over(served.path, [asked])
+        served.over(served.path, [request])
     return states
 
 
-@pytest.mark.parametrize("number", range(len(ASKED)), ids=lambda it: f"{it} {ASKED[it][0]}")
+@pytest.mark.parametrize("number", range(len(REQUESTS)), ids=lambda it: f"{it} {REQUESTS[it][0]}")
 def test_store(served, before_each, number):
-    (name, settings, request), (kept, before) = ASKED[number], before_each[number]
+    (name, settings, request), (kept, before) = REQUESTS[number], before_each[number]
     served.refusing.put("settings.toml", settings)
     # (a server's start is tried with the first request)
     served.path, served.where = kept, {"REFUSE_FROM_INPUT": "1"} if number else {}
@@ -249,9 +249,9 @@ def cycle(one, other):
     return made
 
 
-@pytest.mark.parametrize("made, asked, text", [
+@pytest.mark.parametrize("made, request, text", [
     pytest.param(*it, id=f"{at} {' '.join(it[1][:3])}") for at, it in enumerate(worked())])
-def test_again(refusing, made, asked, text):
+def test_again(refusing, made, request, text):
     served = Served(refusing)
     served.where = {"REFUSE_FROM_INPUT": "1"}
     refusing.put("settings.toml", "")
@@ -260,7 +260,7 @@ def test_again(refusing, made, asked, text):
         put(served.path, made.rows(), made_by(3))
     else:
         served.over(served.path, made)
-    once_more(served, asked, text)
+    once_more(served, request, text)
 
 
 def once_more(served, request, text):
@@ -344,12 +344,12 @@ def over(refusing):
 
 
 def test_bodies_that_are_answered(over):
-    asked, wanted = [SMALL], [ADDED]
+    requests, wanted = [SMALL], [ADDED]
     for one, text in answered():
-        asked += [one, NEXT]
+        requests += [one, NEXT]
         wanted += [text, ADDED]
-    status, came, *rest = over(asked)
-    for one, text, other in itertools.zip_longest(asked, came, wanted):
+    status, came, *rest = over(requests)
+    for one, text, other in itertools.zip_longest(requests, came, wanted):
         report.same(f"{' '.join(one[:3])}, a body without memory", text, other)
     report.same("bodies without memory, and how the server ends", (status, *rest), (0, b"", b""))
 

@@ -30,8 +30,8 @@ TIMES, SETTLED = 10, 30
 # What counts as no growth of a time, in seconds: other programs take the processors, too.
 LITTLE = 0.0005
 TEXT = b"name: soaked\n\nthe same each time\n"
-ASKED = [("POST", "/text", TEXT, 200), ("GET", "/roots", None, 200), ("GET", "/nothing", None, 404),
-         ("POST", "/text", b"name: a/b\n\nrefused\n", 400), ("GET", "/report", None, 200)]
+REQUESTS = [("POST", "/text", TEXT, 200), ("GET", "/roots", None, 200), ("GET", "/nothing", None, 404),
+            ("POST", "/text", b"name: a/b\n\nrefused\n", 400), ("GET", "/report", None, 200)]
 
 
 def round_trip():
@@ -73,24 +73,24 @@ class Soaked(Server):
         """The seconds that a request took on a connection of all; their statuses have to be those that are meant."""
         since = time.monotonic()
         with self.connect() as it:
-            for method, target, body, _ in ASKED[:-1]:
+            for method, target, body, _ in REQUESTS[:-1]:
                 it.sendall(message("ann", method, target, *[body] if body else []))
-            came = last_reply(it, "ann", *ASKED[-1][:2])
+            came = last_reply(it, "ann", *REQUESTS[-1][:2])
         statuses = [int(head.split()[1]) for head, _ in replies(came)[0]]
-        if statuses != [it[3] for it in ASKED]:
+        if statuses != [it[3] for it in REQUESTS]:
             report.fail(f"the statuses are {statuses}")
-        return (time.monotonic() - since) / len(ASKED)
+        return (time.monotonic() - since) / len(REQUESTS)
 
 
 def least(server, count, most):
     """The least seconds that a request took, of `count` connections, which says what the server takes, whatever else
     this machine does; of more connections as long as that is above `most`."""
-    found = [server.ask_all() for _ in range(count)]
+    times = [server.ask_all() for _ in range(count)]
     for _ in range(TIMES * count // 10):
-        if min(found) <= most:
+        if min(times) <= most:
             break
-        found.append(server.ask_all())
-    return min(found)
+        times.append(server.ask_all())
+    return min(times)
 
 
 class Figures(typing.NamedTuple):

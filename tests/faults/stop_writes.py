@@ -43,7 +43,7 @@ LOG = "-wal"
 FAILED, REFUSED = b"failed: disk\n", b"refused: 21 bad-schema\n"
 NOTHING = {"": None, LOG: None}
 # What is asked one after another: the name, the settings and the messages.
-ASKED = [("the making of the tables", "", []), *((name, settings, [it]) for name, settings, it in named())]
+REQUESTS = [("the making of the tables", "", []), *((name, settings, [it]) for name, settings, it in named())]
 
 
 def content(path):
@@ -130,10 +130,10 @@ class Tried(Loaded):
     def wrong_in(self, before, is_done):
         """What is wrong with what a crash may have left of the files, after a request that was answered or wasn't; or
         None."""
-        for found in left(self.path, before):
-            if self.rows and self.spare_rows(found) not in self.rows[is_done:]:
+        for files in left(self.path, before):
+            if self.rows and self.spare_rows(files) not in self.rows[is_done:]:
                 return "SQLite finds rows that are neither those before nor those after"
-            state = self.state(found)
+            state = self.state(files)
             if state not in ([self.after] if is_done else [self.was, self.after]):
                 return f"neither what was there before nor what is after: {state}"[:600]
         return None
@@ -178,38 +178,38 @@ def tried(program, some):
 def before_each(tried):
     """The bytes and the state that each request finds."""
     states, before, was = [], NOTHING, None
-    for _, settings, asked in ASKED:
+    for _, settings, requests in REQUESTS:
         states.append((before, was))
         tried.put_settings(settings)
         lay(tried.path, before)
-        tried.serve(asked)
+        tried.serve(requests)
         before = held(tried.path)
         was = tried.state(before)
     return states
 
 
-@pytest.mark.parametrize("number", range(len(ASKED)), ids=lambda it: f"{it} {ASKED[it][0]}")
+@pytest.mark.parametrize("number", range(len(REQUESTS)), ids=lambda it: f"{it} {REQUESTS[it][0]}")
 def test_requests(tried, before_each, number):
-    name, settings, asked = ASKED[number]
+    name, settings, requests = REQUESTS[number]
     tried.put_settings(settings)
-    tried.stop_each(name, asked, *before_each[number])
+    tried.stop_each(name, requests, *before_each[number])
 
 
 def test_creation(tried):
     """A request by which a file comes into being: what is answered has to stay, so its folder has to be synced."""
     tried.put_settings("")
-    asked = [("ann", "POST", "/text", text("a", b"x"))]
-    tried.stop_each("a request to a file that isn't there", asked, NOTHING, tried.state(NOTHING))
+    requests = [("ann", "POST", "/text", text("a", b"x"))]
+    tried.stop_each("a request to a file that isn't there", requests, NOTHING, tried.state(NOTHING))
 
 
 def first_copy(tried, lists):
     """The first of these lists of requests within which the log is copied into the file, and the bytes before it."""
-    for asked in lists:
+    for requests in lists:
         before = held(tried.path)
-        killed(tried.file, tried.path, asked, "--config", tried.config)
+        killed(tried.file, tried.path, requests, "--config", tried.config)
         if content(tried.path) != before[""]:
             lay(tried.path, before)
-            return asked, before
+            return requests, before
     report.fail("no log was copied into the file")
 
 
@@ -227,16 +227,16 @@ def long_log(tried):
 
 
 def test_copies(tried, long_log):
-    asked, before = long_log
-    tried.stop_each("a request that finds a long log", asked, before, tried.state(before))
+    requests, before = long_log
+    tried.stop_each("a request that finds a long log", requests, before, tried.state(before))
 
 
 @pytest.mark.parametrize("lost", ["", LOG], ids=["file", "log"])
 def test_copies_without_a_sync(tried, long_log, lost):
     """What is left is wrong then, and that is noticed."""
-    asked, before = long_log
-    tried.serve_whole("a request that finds a long log", asked, before, tried.state(before))
-    is_noticed = tried.fault(asked, before, tried.total + 1, 0, LOST=tried.path + lost)
+    requests, before = long_log
+    tried.serve_whole("a request that finds a long log", requests, before, tried.state(before))
+    is_noticed = tried.fault(requests, before, tried.total + 1, 0, LOST=tried.path + lost)
     report.right(f"a lost sync of the {'log' if lost else 'file'}", None if is_noticed else "it isn't noticed")
 
 

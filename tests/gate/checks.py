@@ -199,9 +199,9 @@ def test_planted():
     """Each comparison, each test of the faults and each test of a tool has a planted fault to notice."""
     noticing, scripts_of = {word for fault in sabotage.table() for word in fault.part}, parts.by_name()
     files = [file for of in ("compare", "faults", "tools") for file in scripts_of[of].values()]
-    found = {str(Path(file).relative_to(HERE)) for file in files}
-    yield from [f"{file} has no planted fault to notice" for file in sorted(found - noticing - {*NOT_PLANTED})]
-    yield from [f"{file} has one, or isn't there" for file in NOT_PLANTED if file in noticing or file not in found]
+    modules = {str(Path(file).relative_to(HERE)) for file in files}
+    yield from [f"{file} has no planted fault to notice" for file in sorted(modules - noticing - {*NOT_PLANTED})]
+    yield from [f"{file} has one, or isn't there" for file in NOT_PLANTED if file in noticing or file not in modules]
     yield from [f"{str(Path(sabotage.COSTS).relative_to(HERE))} has {' '.join(part)}, by which no fault is noticed"
                 for part in sorted(sabotage.costs().keys() - sabotage.parts_of_table())]
     for fault in sabotage.table():
@@ -214,7 +214,7 @@ def lines_that_match(pattern, *paths):
 
 def counts():
     """What there is of the tests, by the names of counts.txt."""
-    found = {"cases": len(tracked("tests/cases/*.txt")),
+    sizes = {"cases": len(tracked("tests/cases/*.txt")),
              "steps of cases": lines_that_match(r"^  \$ ", "tests/cases/*.txt"),
              "tests of modules": lines_that_match(r"^def test_", "tests/*/*.py"),
              "tests in crates": lines_that_match(r"^ *#\[test\]", "crates/*/src/*.rt"),
@@ -224,7 +224,7 @@ def counts():
              "edits of definitions": len(bodies.every(False)),
              "edits that change nothing": sum(len(bodies.further(crate, bodies.EQUAL)) for crate in bodies.having()),
              "edits that the gate always tries": len(bodies.always())}
-    return {**found, **{f"modules of {part}": len(names) for part, names in parts.by_name().items()}}
+    return {**sizes, **{f"modules of {part}": len(names) for part, names in parts.by_name().items()}}
 
 
 @finds_nothing

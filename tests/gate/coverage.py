@@ -51,10 +51,10 @@ def running(request, program, seed, shared_folder, top, bound):
             return covered.Measured(name, f"{shared_folder}/{covered.short(name)}", top, given)
 
     with ThreadPoolExecutor(option("--jobs") or len(os.sched_getaffinity(0))) as pool:
-        found = {name: pool.submit(one, name) for name in names}
-        yield found
+        futures = {name: pool.submit(one, name) for name in names}
+        yield futures
         pool.shutdown(cancel_futures=True)
-    count = sum(bool(not it.cancelled() and it.result()) for it in found.values())
+    count = sum(bool(not it.cancelled() and it.result()) for it in futures.values())
     of_day = f", of the day by seed {seed}" if option("--today") else ""
     report.ends_with(f"{count} of {len(covered.measured_tests())} tests measured{of_day}, in {spent() / 60:.1f}"
                      " processor minutes")
@@ -65,13 +65,13 @@ def running(request, program, seed, shared_folder, top, bound):
 def measured_of(running, bound, is_of_day):
     """What was measured of a test that ran. It is skipped where the bound left it out, and fails where it failed, but
     is skipped then, too, among those of a day."""
-    found = running.result()
-    if not found:
+    measured = running.result()
+    if not measured:
         pytest.skip(f"measured tests of the day, since {bound.minutes:g} processor minutes are spent")
-    if found.fault and is_of_day:
-        pytest.skip(f"a test that fails where it is measured: {found.name}")
-    assert not found.fault, found.fault
-    return found
+    if measured.fault and is_of_day:
+        pytest.skip(f"a test that fails where it is measured: {measured.name}")
+    assert not measured.fault, measured.fault
+    return measured
 
 
 def test_passes(name, running, bound, pytestconfig):

@@ -96,8 +96,8 @@ def test_readmes(page):
     text, wanted = text_of(page), [f"# {page.split('/')[1]}", *(f"## {part}" for part in PARTS_OF_CRATE)]
     if (size := len(text.encode())) > CRATE_BYTES:
         yield f"{page}: {size} bytes, and at most {CRATE_BYTES} are allowed"
-    if (found := re.findall(r"^#+ .*$", prose.without_blocks(text), re.M)) != wanted:
-        yield f"{page}: the headings are {', '.join(found)}, and {', '.join(wanted)} are wanted"
+    if (headings := re.findall(r"^#+ .*$", prose.without_blocks(text), re.M)) != wanted:
+        yield f"{page}: the headings are {', '.join(headings)}, and {', '.join(wanted)} are wanted"
 
 
 @each(tracked("*.md"))

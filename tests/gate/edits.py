@@ -61,7 +61,7 @@ def tried(request, words):
         yield running
         pool.shutdown(cancel_futures=True)
     done = [it.result() for it in dict.fromkeys(running.values()) if not it.cancelled()]
-    words.tell(WHAT, len(bodies.every(False)), [verdict for found in done for verdict in found.values()])
+    words.tell(WHAT, len(bodies.every(False)), [verdict for verdicts in done for verdict in verdicts.values()])
 
 
 def test_refused(edit, tried, words):

@@ -41,12 +41,12 @@ def test_sizes():
 def test_performance():
     """PERFORMANCE.md and its picture are what `bin/bench --print` writes of bench/figures.json, and each figure that
     they name is there, unless its benchmark isn't measured yet."""
-    found = json.loads(text_of(FIGURES))
-    for file, text in bench.pages(found).items():
+    figures = json.loads(text_of(FIGURES))
+    for file, text in bench.pages(figures).items():
         if text_of(str(Path(file).relative_to(HERE))) != text:
             yield f"{str(Path(file).relative_to(HERE))} isn't what `bin/bench --print` writes"
     for figure in chosen.FIGURES:
-        if figure.bench in found and not chosen.figure_in(found, *figure[1:]):
+        if figure.bench in figures and not chosen.figure_in(figures, *figure[1:]):
             yield f"{FIGURES} has no figure {figure.label!r}"
     xml.etree.ElementTree.fromstring(text_of("docs/performance.svg"))
 

@@ -62,9 +62,9 @@ class Machine:
         return said
 
     def files(self):
-        found = {str(Path(at, it).relative_to(self.root)) for at, folders, names in os.walk(self.root)
+        paths = {str(Path(at, it).relative_to(self.root)) for at, folders, names in os.walk(self.root)
                  for it in [*names, *folders]}
-        return {it for it in found if not f"{it}/".startswith(tuple(f"{aside}/" for aside in ASIDE))}
+        return {it for it in paths if not f"{it}/".startswith(tuple(f"{aside}/" for aside in ASIDE))}
 
 
 def make(machine, other):

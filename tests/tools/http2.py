@@ -18,11 +18,11 @@ def number(count, bits, first):
     most = (1 << bits) - 1
     if count < most:
         return bytes([first | count])
-    found, count = [first | most], count - most
+    octets, count = [first | most], count - most
     while count > 127:
-        found.append(count % 128 | 128)
+        octets.append(count % 128 | 128)
         count //= 128
-    return bytes([*found, count])
+    return bytes([*octets, count])
 
 
 def packed(fields: Iterable[tuple[bytes, bytes]]) -> bytes:
@@ -44,15 +44,15 @@ def status_of(block):
 
 def digits(text):
     """Digits of Huffman's code: 0 to 2 have five bits, the others six."""
-    bits, found = "".join(f"{it:08b}" for it in text), ""
+    bits, decoded = "".join(f"{it:08b}" for it in text), ""
     while bits:
         if (short := int(bits[:5], 2)) < 3:
-            found, bits = found + str(short), bits[5:]
+            decoded, bits = decoded + str(short), bits[5:]
         elif len(bits) > 5 and 25 <= int(bits[:6], 2) < 32:
-            found, bits = found + str(int(bits[:6], 2) - 22), bits[6:]
+            decoded, bits = decoded + str(int(bits[:6], 2) - 22), bits[6:]
         else:
             break
-    return found
+    return decoded
 
 
 class Connection:

@@ -17,11 +17,11 @@ OTHERS = {"foreign:foreign-secret": "ann@evil.example", "domain:domain-secret": 
 KNOWN = {f"{it}:{it}-secret": it for it in TEAM.PASSWORDS["red"]} | OTHERS
 
 
-def program(asked):
+def program(requests):
     """What oauth2-proxy answers: to nginx 202 and the user, or 401; and on the page where a browser signs in."""
 
     def answer(method, target, fields):
-        asked.append((method, target, {key.lower(): it for key, it in fields.items()}))
+        requests.append((method, target, {key.lower(): it for key, it in fields.items()}))
         if target == "/oauth2/callback":
             return 302, "text/plain", b"", ("location", "/"), ("set-cookie", f"session={'x' * 8000}")
         if target != "/oauth2/auth":
@@ -37,8 +37,8 @@ def program(asked):
 def deployed(nixkeep: str, folder: str, conf: str, changes: Iterable[tuple[str, str]] = ()) -> Iterator[Any]:
     """The deployment with one of nginx's files. Nothing of it runs yet. `by_program` says whether a program knows the
     users, and `asked` has what the stand-in for it was asked."""
-    asked = []
-    with answering(program(asked)) as url:
+    requests = []
+    with answering(program(requests)) as url:
         site = TEAM.Deployment(nixkeep, folder, conf, [(SOCKET, url.partition("//")[2]), *changes])
-        site.by_program, site.asked = conf == BOTH[1], asked
+        site.by_program, site.requests = conf == BOTH[1], requests
         yield site

@@ -49,16 +49,16 @@ def python_packages(deb: str) -> set[str]:
 
 def imported() -> set[str]:
     """The modules, as packages name them, that are neither the tools' nor Python's and that a tool imports."""
-    found = set()
+    modules = set()
     for path in tracked("tools/*"):
         text = Path(HERE, path).read_text()
         for it in ast.walk(ast.parse(text)) if "python3" in text.partition("\n")[0] or path.endswith(".py") else []:
             names = [each.name for each in it.names] if isinstance(it, ast.Import) else []
             names += [it.module or ""] if isinstance(it, ast.ImportFrom) and not it.level else []
-            found |= {each.partition(".")[0] for each in names}
+            modules |= {each.partition(".")[0] for each in names}
     # (jinja2 has markupsafe with it, and boto3 botocore)
-    found -= {*sys.stdlib_module_names, "nixkeep_tools", "markupsafe", "botocore", ""}
-    return {it.replace("_", "-") for it in found}
+    modules -= {*sys.stdlib_module_names, "nixkeep_tools", "markupsafe", "botocore", ""}
+    return {it.replace("_", "-") for it in modules}
 
 
 def sums(deb: str, room: str) -> tuple[str, list[str], list[str]]:

@@ -238,13 +238,13 @@ def by_http_client(head: bytes) -> tuple | None:
     """The status, reason, type, place and length that http.client reads of a head, and whether the connection ends with
     the text; None where it finds a fault."""
     stream = types.SimpleNamespace(makefile=lambda _: io.BytesIO(head + b"\r\n\r\n"))
-    found = http.client.HTTPResponse(stream)
+    reply = http.client.HTTPResponse(stream)
     try:
-        found.begin()
+        reply.begin()
     except http.client.HTTPException:
         return None
-    fields = [found.headers.get(it) for it in ("content-type", "location")]
-    return found.status, found.reason, fields, found.length, found.will_close
+    fields = [reply.headers.get(it) for it in ("content-type", "location")]
+    return reply.status, reply.reason, fields, reply.length, reply.will_close
 
 
 # ---- a server that writes them

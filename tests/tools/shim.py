@@ -28,15 +28,15 @@ NETLINK_DIAG, DIAG, ERROR, LISTENS = 4, 20, 2, 10
 
 def leading(words: list[str]) -> tuple[dict[str, str], list[str]] | None:
     """The options before the subcommand by name, and all words from that on; None where something else is there."""
-    found, left = {}, list(words)
+    options, left = {}, list(words)
     while left and left[0].startswith("-"):
         name, has_value, value = left.pop(0)[2:].partition("=")
-        if name not in OPTIONS or name in found or not (has_value or left):
+        if name not in OPTIONS or name in options or not (has_value or left):
             return None
-        found[name] = value if has_value else left.pop(0)
-        if not has_value and found[name].startswith("-"):
+        options[name] = value if has_value else left.pop(0)
+        if not has_value and options[name].startswith("-"):
             return None
-    return (found, left) if left else None
+    return (options, left) if left else None
 
 
 def why_not(line: tuple[dict[str, str], list[str]] | None) -> str | None:
@@ -76,9 +76,9 @@ def sockets(folder):
 def said_of(port):
     """What the kernel says of the sockets that listen on a port, by sock_diag(7): a message for each, and one that ends
     them."""
-    asked = struct.pack("=IHH8xBB2xI", 72, DIAG, 0x301, socket.AF_INET, socket.IPPROTO_TCP, 1 << LISTENS)
+    question = struct.pack("=IHH8xBB2xI", 72, DIAG, 0x301, socket.AF_INET, socket.IPPROTO_TCP, 1 << LISTENS)
     with socket.socket(socket.AF_NETLINK, socket.SOCK_RAW, NETLINK_DIAG) as kernel:
-        kernel.send(asked + struct.pack("!H46x", port))
+        kernel.send(question + struct.pack("!H46x", port))
         said, at = kernel.recv(1 << 16), 0
     while at < len(said):
         length, kind = struct.unpack_from("=IH", said, at)
@@ -89,9 +89,9 @@ def said_of(port):
 def listeners(port):
     """The links of /proc to the sockets that listen on a port of this machine."""
     with contextlib.suppress(OSError):
-        found = [*said_of(port)]
-        if ERROR not in dict(found):
-            return {f"socket:[{struct.unpack_from('=I', it, 84)[0]}]" for kind, it in found if kind == DIAG}
+        replies = [*said_of(port)]
+        if ERROR not in dict(replies):
+            return {f"socket:[{struct.unpack_from('=I', it, 84)[0]}]" for kind, it in replies if kind == DIAG}
     # (a kernel without that has a table of all connections, also of those that ended within the last minute)
     with open("/proc/net/tcp") as file:
         return {f"socket:[{it.split()[9]}]" for it in file if f":{port:04X} 00000000:0000 0A " in it}
@@ -101,7 +101,7 @@ def listens(port, server):
     """Waits until this server, and no other program, listens on a port. Returns False if it ends before."""
     while server.poll() is None:
         # (before it has a socket none is looked for)
-        if (found := sockets(f"/proc/{server.pid}/fd")) and found & listeners(port):
+        if (opened := sockets(f"/proc/{server.pid}/fd")) and opened & listeners(port):
             return True
         time.sleep(0.002)
     return False

@@ -57,12 +57,12 @@ def answering(program: str, folder: str) -> Iterator[tuple[str, str]]:
 def listen(number, program, log):
     """Does each command that is asked for at a socket, side by side, without end."""
     signal.signal(signal.SIGCHLD, signal.SIG_IGN)
-    asked = socket.socket(fileno=int(number))
+    listener = socket.socket(fileno=int(number))
     while True:
-        with asked.accept()[0] as connection:
+        with listener.accept()[0] as connection:
             if os.fork():
                 continue
-            asked.close()
+            listener.close()
             signal.signal(signal.SIGCHLD, signal.SIG_DFL)
             status = 254
             try:

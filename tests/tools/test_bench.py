@@ -23,10 +23,10 @@ SECONDS = 1200
 
 def pytest_generate_tests(metafunc):
     if "benchmark" in metafunc.fixturenames:
-        asked = metafunc.config.getoption
-        count = report.count_places(asked("--count"), len(FIRST), asked("--seed"))
+        option = metafunc.config.getoption
+        count = report.count_places(option("--count"), len(FIRST), option("--seed"))
         # (all are tried in their order)
-        names = FIRST if count == len(FIRST) else random.Random(asked("--seed")).sample(FIRST, count)
+        names = FIRST if count == len(FIRST) else random.Random(option("--seed")).sample(FIRST, count)
         metafunc.parametrize("benchmark", names)
 
 

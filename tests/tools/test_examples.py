@@ -108,12 +108,12 @@ def installed(program):
         stand_in = f"{{ lib = {LIB}; stdenv.mkDerivation = it: it; autoPatchelfHook = 1; " \
                    "python3.withPackages = f: f { aiohttp = 1; zstandard = 1; jinja2 = 1; }; " \
                    f"src = {archive}; }}"
-        found = evaluated(f"removeAttrs (import {PACKAGE} {stand_in}) [ \"src\" ]")
+        package = evaluated(f"removeAttrs (import {PACKAGE} {stand_in}) [ \"src\" ]")
         subprocess.run(["tar", "-xf", archive, "--strip-components=1", "-C", room], check=True)
-        ran = subprocess.run(["bash", "-ec", found["installPhase"]], cwd=room, env={**os.environ, "out": out},
+        ran = subprocess.run(["bash", "-ec", package["installPhase"]], cwd=room, env={**os.environ, "out": out},
                              capture_output=True, text=True)
         assert (ran.returncode, ran.stderr) == (0, "")
-        yield out, found["version"]
+        yield out, package["version"]
 
 
 @needs_nix
@@ -143,9 +143,9 @@ INSTRUCTIONS = {"FROM", "COPY", "RUN", "USER", "VOLUME", "EXPOSE", "CMD", "HEALT
 def container():
     """The instructions of the file, each with its words as one text."""
     lines = re.sub(r"\\\n", " ", Path(CONTAINER).read_text()).splitlines()
-    found = [tuple(line.split(" ", 1)) for line in lines if line and not line.startswith("#")]
-    assert {it for it, _ in found} <= INSTRUCTIONS
-    return dict(found)
+    pairs = [tuple(line.split(" ", 1)) for line in lines if line and not line.startswith("#")]
+    assert {it for it, _ in pairs} <= INSTRUCTIONS
+    return dict(pairs)
 
 
 def test_what_is_copied_is_what_bin_package_makes(container):
@@ -164,11 +164,11 @@ def test_who_runs_the_image(container):
 def here(text, folder, port):
     """A command of the image in the form of a list, after the options of a check of health, as it runs in this
     checkout: its folders and its port are others."""
-    found = []
+    words = []
     for it in json.loads(text[text.index("[") :]):
         it = it.replace("/etc/nixkeep/store.toml", f"{folder}/store.toml").replace("/store/", f"{folder}/")
-        found.append(it.replace("0.0.0.0:8081", f"127.0.0.1:{port}").replace(":8081", f":{port}"))
-    return found
+        words.append(it.replace("0.0.0.0:8081", f"127.0.0.1:{port}").replace(":8081", f":{port}"))
+    return words
 
 
 @pytest.mark.needs("python3-aiohttp")

@@ -63,8 +63,8 @@ def lines_of(output, named, dropped):
 
 def faults_of(schema):
     """The faults that a file of a schema can have."""
-    found = {**FAULTY.whatever_the_schema(), **(FAULTY.of_pieces() if schema > 1 else {})}
-    return {**found, **({**FAULTY.of_sessions(), **FAULTY.of_tables()} if schema == 3 else {})}
+    faults = {**FAULTY.whatever_the_schema(), **(FAULTY.of_pieces() if schema > 1 else {})}
+    return {**faults, **({**FAULTY.of_sessions(), **FAULTY.of_tables()} if schema == 3 else {})}
 
 
 PLANTED = {(schema, what): text for schema in (1, 2, 3) for what, text in faults_of(schema).items()}
@@ -74,10 +74,10 @@ PLANTED = {(schema, what): text for schema in (1, 2, 3) for what, text in faults
 def sound():
     """A sound file of each schema."""
     with tempfile.TemporaryDirectory() as folder:
-        found = {schema: f"{folder}/sound{schema}.db" for schema in (1, 2, 3)}
-        for schema, path in found.items():
+        paths = {schema: f"{folder}/sound{schema}.db" for schema in (1, 2, 3)}
+        for schema, path in paths.items():
             put(path, FAULTY.store.rows(schema), made_by(schema))
-        yield found
+        yield paths
 
 
 @pytest.mark.parametrize("schema", [1, 2, 3])
@@ -112,8 +112,8 @@ def test_each_fault_of_the_table_is_planted():
 def difference(text):
     """What a schema has that isn't among the tables of the third, or which of these it has."""
     text = text.replace(BEFORE, "")
-    found = [it.strip() for it in statements(text) if it not in {*statements(ALL)}]
-    return " ".join(found) or " ".join(["only", *sorted(table for table in TABLES if making(table) in text)])
+    extra = [it.strip() for it in statements(text) if it not in {*statements(ALL)}]
+    return " ".join(extra) or " ".join(["only", *sorted(table for table in TABLES if making(table) in text)])
 
 
 OTHER_SCHEMAS = [*schemas()]
@@ -451,9 +451,9 @@ def from_sqlite(folder, path):
     for it in (copy, copy + "-wal"):
         with contextlib.suppress(FileNotFoundError):
             os.remove(it)
-    found = [log[at:at + 24] for at in range(32, len(log) - 4119, 4120)]
-    written = max((at for at, it in enumerate(found, 1) if it[8:16] == log[16:24]), default=0)
-    left = found[used:max(written, used)]
+    heads = [log[at:at + 24] for at in range(32, len(log) - 4119, 4120)]
+    written = max((at for at, it in enumerate(heads, 1) if it[8:16] == log[16:24]), default=0)
+    left = heads[used:max(written, used)]
     return len(left), sum(it[4:8] != bytes(4) for it in left), objects
 
 

@@ -56,13 +56,13 @@ def test_nginx_asks_by_sockets_alone():
 @pytest.mark.parametrize("target", ["/who", "/oauth2/start"])
 def test_the_program_gets_what_nginx_has_seen(target, site):
     """It may let in requests by their address, method or target, so a client can't say these itself."""
-    del site.asked[:]
+    del site.requests[:]
     words = ["x-real-ip: 10.0.0.1", "x-forwarded-for: 10.0.0.1", "x-forwarded-uri: /health",
              "x-forwarded-proto: gopher", "x-forwarded-host: evil.example", "forwarded: for=10.0.0.1",
              "x-original-uri: /health", "x-original-url: https://evil.example/health", "x-original-method: OPTIONS",
              "x-forwarded-method: OPTIONS", "cookie: a=b"]
     site.user("ann")("GET", target, None, *[it for word in words for it in ("-H", word)])
-    (_, _, fields), = site.asked
+    (_, _, fields), = site.requests
     name = f"red.localhost:{site.port}"
     assert {key: it for key, it in fields.items() if key.startswith("x-")} == {
         "x-real-ip": "127.0.0.1", "x-forwarded-for": "127.0.0.1", "x-forwarded-uri": target,
@@ -74,12 +74,12 @@ def test_the_program_gets_what_nginx_has_seen(target, site):
 def test_the_program_gets_no_field_of_the_client_but_logins(site):
     """Some programs take from fields of a request which server of LDAP they ask, so a client could name its own. The
     page where a browser signs in gets all fields."""
-    del site.asked[:]
+    del site.requests[:]
     words = ["x-ldap-url: ldap://evil.example", "x-cookiename: x", "x-forwarded-groups: builders", "user-agent: x",
              "x-auth-request-user: build", "cookie: a=b", "cookie: c=d", "range: bytes=0-0", "content-type: x"]
     given = [it for word in words for it in ("-H", word)]
     assert who(site.user("ann"), *given) == ALLOWED
-    (_, _, fields), = site.asked
+    (_, _, fields), = site.requests
     assert {key for key in fields if not key.startswith(("x-forwarded-", "x-original-"))} == {
         "host", "connection", "cookie", "authorization", "x-real-ip"}
     assert fields["cookie"] in ("a=b; c=d", "a=b") and "x-forwarded-groups" not in fields
@@ -102,10 +102,10 @@ def test_long_cookies(site):
     """Those of a browser that has signed in: the program gives and gets them."""
     status, head = site.user(None)("GET", "/oauth2/callback", None, "-i")
     assert status == 302 and f"session={'x' * 8000}".encode() in head
-    del site.asked[:]
+    del site.requests[:]
     cookie = f"session={'x' * 20_000}"
     assert who(site.user("ann"), "-H", f"cookie: {cookie}") == ALLOWED
-    assert site.asked[0][2]["cookie"] == cookie
+    assert site.requests[0][2]["cookie"] == cookie
 
 
 def test_health_needs_no_login(site):

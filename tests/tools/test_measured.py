@@ -24,9 +24,9 @@ def test_a_process_that_ends(how, folder):
     environment, numbers = covered.prepare(f"{folder}/measured", folder), {*range(1, len(text) + 1)}
     with covered.listening(covered.place_in(f"{folder}/measured")) as lines:
         ran = subprocess.run([sys.executable, file], env=environment, capture_output=True, text=True)
-        parts.until("all of its lines", lambda: lines.found.get(str(file)) == numbers, 60)
+        parts.until("all of its lines", lambda: lines.by_file.get(str(file)) == numbers, 60)
     assert ran.stderr == ""
-    assert covered.percents(lines.found, folder) == (100, [("tools/it.py", 100.0)])
+    assert covered.percents(lines.by_file, folder) == (100, [("tools/it.py", 100.0)])
 
 
 def test_what_ran_in_part(folder):

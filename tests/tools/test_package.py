@@ -143,13 +143,13 @@ def calls_in(name):
 
 def calls_allowed(unit):
     """The system calls that a unit allows: each line adds some, or takes some away."""
-    found = set()
+    allowed = set()
     for line in layout.content(unit).decode().splitlines():
         key, _, names = line.partition("=")
         if key == "SystemCallFilter":
             calls = set().union(*[calls_in(word) for word in names.removeprefix("~").split()])
-            found = found - calls if names.startswith("~") else found | calls
-    return found
+            allowed = allowed - calls if names.startswith("~") else allowed | calls
+    return allowed
 
 
 @pytest.mark.needs("dpkg-deb", "strace", "systemd-analyze")
@@ -190,8 +190,8 @@ class Root:
     def files(self):
         """The files and links below usr and etc."""
         tops = [f"{self.root}/{it}" for it in ("usr", "etc")]
-        found = [f"{at}/{name}" for top in tops for at, _, names in os.walk(top) for name in names]
-        return sorted(str(Path(it).relative_to(self.root)) for it in found)
+        paths = [f"{at}/{name}" for top in tops for at, _, names in os.walk(top) for name in names]
+        return sorted(str(Path(it).relative_to(self.root)) for it in paths)
 
 
 @pytest.fixture(scope="module")
@@ -213,8 +213,8 @@ def fresh(deb, folder):
 
 @needs_dpkg
 def test_dpkg_lists_the_package(installed):
-    asked = ["dpkg-query", f"--admindir={installed.root}/var/lib/dpkg", "-W"]
-    _, printed = ran([*asked, "-f", "${Status} ${Version}${Conffiles}", "nixkeep"])
+    query = ["dpkg-query", f"--admindir={installed.root}/var/lib/dpkg", "-W"]
+    _, printed = ran([*query, "-f", "${Status} ${Version}${Conffiles}", "nixkeep"])
     assert printed.startswith(f"install ok installed {layout.version()}")
     assert f" /{CONFIGURATION} " in printed, "the configuration is one that dpkg keeps"
 

@@ -64,18 +64,18 @@ class Adding:
     """A client that adds numbered texts, one after another, until it is stopped."""
 
     def __init__(self, port):
-        self.port, self.asked, self.answered, self.ends = port, 0, 0, threading.Event()
+        self.port, self.sent, self.answered, self.ends = port, 0, 0, threading.Event()
         self.thread = threading.Thread(target=self.run)
 
     def run(self):
         connection = http.client.HTTPConnection("127.0.0.1", self.port)
         while not self.ends.is_set():
-            self.asked += 1
-            text = f"name: n{self.asked:06}\n\n".encode() + os.urandom(3000)
+            self.sent += 1
+            text = f"name: n{self.sent:06}\n\n".encode() + os.urandom(3000)
             connection.request("POST", "/text", text, {"store-user": "ann"})
             if b"-n" not in connection.getresponse().read():
                 break
-            self.answered = self.asked
+            self.answered = self.sent
 
     def __enter__(self):
         self.thread.start()
@@ -103,12 +103,12 @@ def test_snapshots(program, folder, count, holder, inside, file_system):
             time.sleep(0.3)
             place, least = f"{file_system}/snapshot{at}", adding.answered
             taken = ran(*inside, "btrfs", "subvolume", "snapshot", "-r", store, place)
-            most = adding.asked
+            most = adding.sent
             assert taken.returncode == 0, taken.stderr
             copy = f"{folder}/copy{at}.db"
             for end in ("", "-wal"):
                 shutil.copy(f"/proc/{holder}/root{place}/store.db{end}", copy + end)
-            found = numbers(program, copy)
-            assert found == [*range(1, len(found) + 1)]
-            assert least <= len(found) <= most
-    assert adding.answered == adding.asked
+            kept = numbers(program, copy)
+            assert kept == [*range(1, len(kept) + 1)]
+            assert least <= len(kept) <= most
+    assert adding.answered == adding.sent

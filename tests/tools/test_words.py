@@ -30,10 +30,10 @@ def tool(request):
 @pytest.fixture(scope="module")
 def options(tool, program):
     """The options of a tool."""
-    found = options_of(tool)
-    if found is None:
+    known = options_of(tool)
+    if known is None:
         pytest.skip(f"{tool}: a module of Python that it needs isn't installed")
-    return found - MENTIONED.get(tool, set()) | (options_of_program(program) if tool == "nixkeep-remote" else set())
+    return known - MENTIONED.get(tool, set()) | (options_of_program(program) if tool == "nixkeep-remote" else set())
 
 
 def test_the_manual_page_has_the_options(tool, options):

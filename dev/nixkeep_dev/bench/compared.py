@@ -39,9 +39,9 @@ def pairs(made, kept):
 def warnings(made: dict, kept: dict) -> Iterator[str]:
     """A line for each figure that is more than 20 % worse than the last one. Times without a peer's are compared with
     the median of all, which says how much faster or slower this machine is."""
-    found = [*pairs(made, kept)]
-    pace = statistics.median([times for _, it, times in found if is_of_machine(it)] or [1])
-    for name, it, times in found:
+    compared = [*pairs(made, kept)]
+    pace = statistics.median([times for _, it, times in compared if is_of_machine(it)] or [1])
+    for name, it, times in compared:
         times /= pace if is_of_machine(it) else 1
         if times > MOST:
             date = kept[name]["facts"]["Date"]

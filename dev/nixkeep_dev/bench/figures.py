@@ -149,11 +149,11 @@ def command(words: list, given: str | None = None, env: dict | None = None) -> t
 
 def commands(each: dict[str, list], count: int, given: str | None = None) -> dict[str, tuple]:
     """The seconds and the most MiB of commands that run in turn, by name."""
-    found = {name: [] for name in each}
+    runs = {name: [] for name in each}
     for _ in range(count):
         for name, words in each.items():
-            found[name].append(command(words, given))
-    return {name: ([it[0] for it in ran], max(it[1] for it in ran) / 1024) for name, ran in found.items()}
+            runs[name].append(command(words, given))
+    return {name: ([it[0] for it in ran], max(it[1] for it in ran) / 1024) for name, ran in runs.items()}
 
 
 def memory_of(words: list) -> float:

@@ -27,8 +27,8 @@ class Load:
         if ran.returncode:
             sys.exit(f"wrk: {ran.stdout}{ran.stderr}")
         self.rate = float(re.search(r"Requests/sec: +([\d.]+)", ran.stdout)[1])
-        found = re.findall(r"^ +(50|99)% +([\d.]+)(us|ms|s|m|h) *$", ran.stdout, re.M)
-        self.percentiles = {int(part): float(number) * SECONDS[unit] for part, number, unit in found}
+        matches = re.findall(r"^ +(50|99)% +([\d.]+)(us|ms|s|m|h) *$", ran.stdout, re.M)
+        self.percentiles = {int(part): float(number) * SECONDS[unit] for part, number, unit in matches}
         wrong = re.findall(r"Non-2xx or 3xx responses: (\d+)|(?:connect|read|write|timeout) (\d+)", ran.stdout)
         self.wrong = sum(int(one or other) for one, other in wrong)
         self.each = 1 / self.rate if self.rate else float("inf")

@@ -140,18 +140,18 @@ def growth(measured):
 
 def day(measured):
     """The table of a team's day, where it was measured."""
-    found = {it["what"]: it for it in measured.get("day", {"figures": []})["figures"]
-             if "skipped" not in it and re.fullmatch(chosen.DAY, it["section"])}
-    if not found:
+    figures = {it["what"]: it for it in measured.get("day", {"figures": []})["figures"]
+               if "skipped" not in it and re.fullmatch(chosen.DAY, it["section"])}
+    if not figures:
         return
     yield DAY
     yield "| What | half within | 99 of 100 within |\n|---|---|---|"
-    for what, it in found.items():
+    for what, it in figures.items():
         kind, colon, _ = what.partition(": half of ")
         if colon and kind in chosen.KINDS:
-            yield f"| {chosen.KINDS[kind]} | {value_of(it)} | {value_of(found[f'{kind}: 99 of 100 within'])} |"
+            yield f"| {chosen.KINDS[kind]} | {value_of(it)} | {value_of(figures[f'{kind}: 99 of 100 within'])} |"
     yield "\n| What | nixkeep |\n|---|---|"
-    yield from (f"| {label} | {value_of(found[what])} |" for what, label in chosen.OF_DAY.items())
+    yield from (f"| {label} | {value_of(figures[what])} |" for what, label in chosen.OF_DAY.items())
     yield ""
 
 

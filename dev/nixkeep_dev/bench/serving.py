@@ -22,9 +22,9 @@ class Client:
 
     @classmethod
     def of_port(cls, port: int) -> Self:
-        found = connected(port)
-        found.setsockopt(socket.IPPROTO_TCP, socket.TCP_NODELAY, 1)
-        return cls(found)
+        connection = connected(port)
+        connection.setsockopt(socket.IPPROTO_TCP, socket.TCP_NODELAY, 1)
+        return cls(connection)
 
     def reply(self, status: int = 200) -> int:
         """The length of the text of the next reply, which has to have this status."""

@@ -30,13 +30,13 @@ def sizes(rng, count, total):
     """The sizes in bytes of files of this machine's /usr, drawn by chance: together at most 16 MiB above `total`."""
     files = (f"{at}/{name}" for at, _, names in os.walk("/usr") for name in sorted(names))
     each = [os.lstat(file).st_size for file in files if Path(file).is_file() and not Path(file).is_symlink()]
-    each, found, together = [it for it in each if it <= LIMIT - FRAME - 8], [], 0
-    while len(found) < count:
+    each, drawn, together = [it for it in each if it <= LIMIT - FRAME - 8], [], 0
+    while len(drawn) < count:
         size = rng.choice(each)
-        if together + size <= total * (len(found) + 1) / count + LIMIT:
-            found.append(size)
+        if together + size <= total * (len(drawn) + 1) / count + LIMIT:
+            drawn.append(size)
             together += size
-    return found
+    return drawn
 
 
 class Team:

@@ -11,7 +11,7 @@ from nixkeep_dev.testing.http_messages import lines
 from nixkeep_dev.testing.nar import archive, base32, hidden, nar_hash
 
 # A request that was answered: which kind, when it was sent, and the seconds until the reply was whole.
-Asked = namedtuple("Asked", "kind sent took")
+Request = namedtuple("Request", "kind sent took")
 OF_CLOSURE = 20
 
 
@@ -25,7 +25,7 @@ class User:
     def __init__(self, team: Team, port: int, name: str, seed: int | str, rests: float = 0):
         self.team, self.port, self.name, self.rng = team, port, name, random.Random(f"{seed} {name}")
         self.rests = rests
-        self.asked, self.made, self.pinned = [], 0, []
+        self.requests, self.made, self.pinned = [], 0, []
 
     def ask(self, kind: str, method: str, target: str, body: bytes | None = None) -> tuple[int, bytes]:
         """The status and the text of the server's reply."""
@@ -34,7 +34,7 @@ class User:
             connection.request(method, target, body, {"store-user": self.name, "connection": "close"})
             reply = connection.getresponse()
             text = reply.read()
-        self.asked.append(Asked(kind, sent, time.perf_counter() - sent))
+        self.requests.append(Request(kind, sent, time.perf_counter() - sent))
         time.sleep(self.rests)
         return reply.status, text
 

@@ -67,17 +67,17 @@ def parts(file: str) -> tuple[list, list]:
 def documents() -> list[tuple]:
     """The documents of a package, below its folder of documents."""
     pages = ["README.md", "CHANGELOG.md", "SECURITY.md"]
-    found = [*pages, *[f"docs/{it}" for it in names_in("docs")], *examples("examples")]
-    return [(it, f"{HERE}/{it}") for it in found if Path(f"{HERE}/{it}").is_file()]
+    names = [*pages, *[f"docs/{it}" for it in names_in("docs")], *examples("examples")]
+    return [(it, f"{HERE}/{it}") for it in names if Path(f"{HERE}/{it}").is_file()]
 
 
 def examples(folder):
     """The files below a folder that git doesn't leave out."""
-    found = []
+    paths = []
     for at, folders, names in os.walk(f"{HERE}/{folder}"):
         folders[:] = sorted(it for it in folders if it not in ("out", "__pycache__"))
-        found += [str(Path(f"{at}/{name}").relative_to(HERE)) for name in sorted(names)]
-    return found
+        paths += [str(Path(f"{at}/{name}").relative_to(HERE)) for name in sorted(names)]
+    return paths
 
 
 def sources() -> str:

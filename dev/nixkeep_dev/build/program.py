@@ -44,16 +44,16 @@ def listed() -> dict[str, list]:
 
 def with_below(crate: str, named: dict[str, list]) -> list[str]:
     """The crates of this repository below one, lowest first, and itself."""
-    found = {}
+    crates = {}
 
     def visit(it):
-        if it in named and it not in found:
+        if it in named and it not in crates:
             for library in named[it]:
                 visit(library)
-            found[it] = None
+            crates[it] = None
 
     visit(crate)
-    return [*found]
+    return [*crates]
 
 
 def toolchain() -> str | None:
@@ -110,27 +110,27 @@ def words_of(crate: str, named: dict[str, list], folder_of: Callable, jobs: int)
 
 def files_of(crate: str) -> list[str]:
     """The paths of the files of a crate that a proof reads, below the top of the repository, in order."""
-    found = []
+    paths = []
     for part in ("src", "specs", "proofs"):
         for at, folders, names in os.walk(f"{HERE}/crates/{crate}/{part}"):
             folders.sort()
             place = at.removeprefix(f"{HERE}/")
-            found += [f"{place}/{name}" for name in sorted(names) if name.endswith((".rt", ".antt"))]
-    return found
+            paths += [f"{place}/{name}" for name in sorted(names) if name.endswith((".rt", ".antt"))]
+    return paths
 
 
 def sources(named, tops=(NAME,)):
     """A sum for each of these crates and those below them, lowest first, of its sources and of theirs."""
-    found = {}
+    sums = {}
     handles = Path(f"{HERE}/HANDLES").read_text()
     for crate in dict.fromkeys(it for top in tops for it in with_below(top, named)):
-        read = hashlib.sha256(repr((handles, named[crate], [found.get(it) for it in named[crate]])).encode())
+        read = hashlib.sha256(repr((handles, named[crate], [sums.get(it) for it in named[crate]])).encode())
         for path in files_of(crate):
             with open(f"{HERE}/{path}", "rb", buffering=0) as file:
                 data = file.read()
             read.update(b"%b %d\n%b" % (path.encode(), len(data), data))
-        found[crate] = read.hexdigest()
-    return found
+        sums[crate] = read.hexdigest()
+    return sums
 
 
 def source() -> str:
@@ -192,9 +192,9 @@ def times(path: str = TIMES) -> dict:
 
 
 def keep_times(crate: str, seconds: float, work: float, memory: int) -> None:
-    found = {**times(), crate: {"seconds": round(seconds, 1), "work": round(work, 1), "memory": memory}}
+    kept = {**times(), crate: {"seconds": round(seconds, 1), "work": round(work, 1), "memory": memory}}
     with open(f"{TIMES}-{os.getpid()}", "w") as file:
-        json.dump(found, file, indent=1, sort_keys=True)
+        json.dump(kept, file, indent=1, sort_keys=True)
     os.replace(file.name, TIMES)
 
 
@@ -223,19 +223,19 @@ def prove(tops: Iterable[str], why: str | None = None) -> bool:
     """Proves these crates and those below them, and builds what they make, where that isn't done for the
     present sources: it prints that it does and, if that is given, why. Returns whether there was anything to do."""
     named, by = listed(), toolchain_line()
-    found = sources(named, tops)
-    if all(is_kept(top, found[top], by) for top in tops):
+    sums = sources(named, tops)
+    if all(is_kept(top, sums[top], by) for top in tops):
         return False
     fault = fault_of_toolchain()
     if fault:
         sys.exit(f"{NAME}: {why}, and can't be proved here: {fault}" if why else f"{NAME}: {fault}")
     from nixkeep_dev.build import proving
     with alone():
-        left = [it for it in found if not is_kept(it, found[it], by)]
+        left = [it for it in sums if not is_kept(it, sums[it], by)]
         if left:
             reason = f" ({why})" if why else ""
-            say(f"proving {len(left)} of {len(found)} crates{reason}; CONTRIBUTING.md says how long that takes")
-            proving.prove_all(left, found, named, by)
+            say(f"proving {len(left)} of {len(sums)} crates{reason}; CONTRIBUTING.md says how long that takes")
+            proving.prove_all(left, sums, named, by)
     return True
 
 
@@ -246,8 +246,8 @@ def is_built() -> bool:
 
 def keep_built() -> None:
     """Notes that the program, and the libraries that rt ci left, are made of the present sources."""
-    found, by = sources(listed()), toolchain_line()
-    for crate, source in found.items():
+    sums, by = sources(listed()), toolchain_line()
+    for crate, source in sums.items():
         made = f"{HERE}/crates/{crate}/out/rlib"
         if crate == NAME:
             keep(NAME, source, by)

@@ -56,10 +56,10 @@ def made_of():
     if not Path(FOLDER).exists():
         return None
     pairs = [line.partition(": ") for line in read(MADE_OF).decode(errors="replace").splitlines()]
-    found = {key: value for key, _, value in pairs}
-    if tuple(found) != KEYS:
+    fields = {key: value for key, _, value in pairs}
+    if tuple(fields) != KEYS:
         raise Unusable(f"{shown(MADE_OF)} is damaged: it hasn't the lines {', '.join(KEYS)}")
-    return found
+    return fields
 
 
 def packed(record):

@@ -58,13 +58,13 @@ def machine():
 
 def facts():
     """What the figures depend on, by a word for each."""
-    found = {"Machine": f"{machine()}, Linux {platform.release()}", "Date": datetime.date.today().isoformat(),
-             "Commit": first_line(["git", "-C", HERE, "rev-parse", "--short=12", "HEAD"]),
-             "python3": platform.python_version(), "C SQLite": sqlite3.sqlite_version}
+    rows = {"Machine": f"{machine()}, Linux {platform.release()}", "Date": datetime.date.today().isoformat(),
+            "Commit": first_line(["git", "-C", HERE, "rev-parse", "--short=12", "HEAD"]),
+            "python3": platform.python_version(), "C SQLite": sqlite3.sqlite_version}
     for name, (tool, *words) in PEERS.items():
         file = packages.place_of(tool)
-        found[name] = first_line([file, *words]) if file else "not installed"
-    return found
+        rows[name] = first_line([file, *words]) if file else "not installed"
+    return rows
 
 
 # ---- running
@@ -75,9 +75,9 @@ def figures_of(name, more, given, flags, folder):
     file, records = f"{HERE}/bench/{name}.py", Path(f"{folder}/{name}.json")
     flags = [it for it in flags if options_of(file, {it[2:]: ""})]
     subprocess.run(command([file, *options_of(file, {**given, "records": records}), *flags, *more]))
-    found = json.loads(records.read_text()) if records.exists() else None
+    figures = json.loads(records.read_text()) if records.exists() else None
     records.unlink(missing_ok=True)
-    return found
+    return figures
 
 
 def kept():

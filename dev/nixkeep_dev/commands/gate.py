@@ -76,10 +76,10 @@ class Watch:
 
     def minutes(self) -> dict[str, collections.Counter]:
         """Minutes by crate and kind."""
-        found = collections.defaultdict(collections.Counter)
+        by_crate = collections.defaultdict(collections.Counter)
         for crate, kind, ticks in [(*self.work[key], it) for key, it in self.ticks.items() if self.work[key]]:
-            found[crate][kind] += ticks / TICKS / 60
-        return found
+            by_crate[crate][kind] += ticks / TICKS / 60
+        return by_crate
 
 
 def clear_libraries():
@@ -114,12 +114,12 @@ def try_parts():
     return parts.side_by_side(tried, [bodies, definitions]), watch.minutes()
 
 
-def show_table(found, cases, whole, since):
-    rows = sorted(found.items(), key=lambda it: -sum(it[1].values()))
+def show_table(by_crate, cases, whole, since):
+    rows = sorted(by_crate.items(), key=lambda it: -sum(it[1].values()))
     print(f"\n{'processor minutes':22}" + "".join(f"{it:>8}" for it in (*KINDS, "all")))
     for crate, row in rows:
         print(f"{crate:22}" + "".join(f"{row[kind]:8.1f}" for kind in KINDS) + f"{sum(row.values()):8.1f}")
-    other = whole - cases - sum(sum(row.values()) for row in found.values())
+    other = whole - cases - sum(sum(row.values()) for row in by_crate.values())
     print(f"{'what tries the program':46}{cases:8.1f}\n{'else':46}{other:8.1f}")
     columns = "".join(f"{sum(row[kind] for _, row in rows):8.1f}" for kind in KINDS)
     print(f"{'together':22}{columns}{whole:8.1f}")
@@ -133,7 +133,7 @@ def gate(budget: float, may_skip: bool) -> int:
     runs = [run(["rt", "ci"], each_second=watch.look, limit=PROOFS)]
     # (its last line counts crates and edits, and not the tests that it runs)
     runs[0].passed += sum(map(int, re.findall(r"^test result: \w+\. (\d+) passed;", runs[0].output, re.M)))
-    before, found, cases = spent() / 60, watch.minutes(), 0
+    before, by_crate, cases = spent() / 60, watch.minutes(), 0
     is_same, compared = True, "not compared with release/: no program was built"
     if runs[0].is_good():
         is_same, compared = release.compare(program.FILE)
@@ -142,10 +142,10 @@ def gate(budget: float, may_skip: bool) -> int:
         more, edits = try_parts()
         runs += more
         for crate, row in edits.items():
-            found[crate]["edits"] += row["edits"]
+            by_crate[crate]["edits"] += row["edits"]
         cases = max(spent() / 60 - before - sum(row["edits"] for row in edits.values()), 0)
     whole = spent() / 60
-    show_table(found, cases, whole, since)
+    show_table(by_crate, cases, whole, since)
     if whole > budget:
         print(f"bin/test: {whole:.1f} processor minutes are more than its budget of {budget:g}")
     anew = {*re.findall(r"^rt: (\w+) proved$", runs[0].output, re.M)}

@@ -109,20 +109,20 @@ def arguments(words):
     parser.add_argument("--prefix", help="where to install, ~/.local where none is given")
     parser.add_argument("--program", help="a program to install in place of the one that is proved here")
     parser.add_argument("--remove", action="store_true", help="remove what was installed")
-    found = parser.parse_args(words)
-    if found.place is not None and found.prefix is not None or "" in (found.place, found.prefix):
+    given = parser.parse_args(words)
+    if given.place is not None and given.prefix is not None or "" in (given.place, given.prefix):
         parser.error("give one prefix")
-    return str(Path(found.place or found.prefix or f"{Path.home()}/.local").absolute()), found
+    return str(Path(given.place or given.prefix or f"{Path.home()}/.local").absolute()), given
 
 
 def main(words: list[str]) -> None:
-    prefix, found = arguments(words)
+    prefix, given = arguments(words)
     # (the folders are for every user, as the files)
     os.umask(0o022)
     try:
-        if found.remove:
+        if given.remove:
             return remove(prefix)
-        places = install(prefix, found.program or release.ready())
+        places = install(prefix, given.program or release.ready())
     except OSError as fault:
         sys.exit(f"bin/install: {fault.strerror}: {fault.filename}")
     print(*places, sep="\n", flush=True)

@@ -95,8 +95,8 @@ def files_below(top):
 
 def libc_of(file):
     """The lowest version of the C library that has all that a program names of it."""
-    found = {tuple(map(int, it.split(b"."))) for it in re.findall(rb"\0GLIBC_([0-9.]+)\0", layout.content(file))}
-    return ".".join(map(str, max(found, default=(2, 34))))
+    versions = {tuple(map(int, it.split(b"."))) for it in re.findall(rb"\0GLIBC_([0-9.]+)\0", layout.content(file))}
+    return ".".join(map(str, max(versions, default=(2, 34))))
 
 
 def put_control(top, file):
@@ -148,15 +148,15 @@ def arguments(words):
 
 
 def main(words: list[str]) -> None:
-    found = arguments(words)
+    given = arguments(words)
     if not shutil.which("dpkg-deb"):
         sys.exit("bin/package: the command dpkg-deb isn't on the path")
-    file = found.program or release.ready()
+    file = given.program or release.ready()
     os.umask(0o022)
-    os.makedirs(found.to, exist_ok=True)
+    os.makedirs(given.to, exist_ok=True)
     with tempfile.TemporaryDirectory(prefix="nixkeep-package-") as room:
         try:
-            made = make(f"{room}/all", file, str(Path(found.to).absolute()), not found.program)
+            made = make(f"{room}/all", file, str(Path(given.to).absolute()), not given.program)
         except (OSError, subprocess.CalledProcessError) as fault:
             sys.exit(f"bin/package: {fault}")
     print(*made, sep="\n")

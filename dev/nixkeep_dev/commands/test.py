@@ -79,11 +79,11 @@ def run_part(words, parser):
     known = parts.by_name()[words.part]
     if unknown := [it for it in words.names if it not in known]:
         parser.error(f"no {' '.join(unknown)} in {words.part}: {', '.join(known)}")
-    found = []
+    runs = []
     for name in words.names or by_itself(words.part, known):
         print(f"\n{words.part} {name}", flush=True)
-        found.append(run([known[name], *options_of(known[name], given)], limit=ALONE))
-    return together(found, may_skip=not words.no_skips)
+        runs.append(run([known[name], *options_of(known[name], given)], limit=ALONE))
+    return together(runs, may_skip=not words.no_skips)
 
 
 def run_without_toolchain(words):
@@ -91,11 +91,11 @@ def run_without_toolchain(words):
     file = report.program_file(words)
     given = {"program": file, "seed": words.seed, "count": words.count}
     tried = [parts.Part(f"gate/{it}", {}) for it in parts.CHECKS] + parts.of_program(given)
-    found = parts.side_by_side(tried)
-    names = ", ".join(it.name for it, ran in zip(tried, found) if not ran)
+    runs = parts.side_by_side(tried)
+    names = ", ".join(it.name for it, ran in zip(tried, runs) if not ran)
     left_out = [f"proofs, wrong bodies, {names}: they need the Rattle toolchain, and `bin/test all` runs them",
                 "a clean Debian and a booted machine take minutes: `bin/test package` and `bin/test team units`"]
-    return together([it for it in found if it], left_out=left_out, may_skip=not words.no_skips)
+    return together([it for it in runs if it], left_out=left_out, may_skip=not words.no_skips)
 
 
 def run_all(words):

@@ -35,9 +35,9 @@ class Reader:
         return self.data[start : start + size]
 
     def one_of(self, *tags):
-        found = self.string()
-        refuse(2, found not in tags)
-        return found
+        tag = self.string()
+        refuse(2, tag not in tags)
+        return tag
 
     def name(self, before: bytes | None) -> bytes:
         """The name of an entry, which is above that of the entry before it."""
@@ -47,16 +47,16 @@ class Reader:
         return name
 
     def entries(self, depth: int) -> list[tuple]:
-        found = []
+        entries = []
         while self.one_of(b"entry", b")") == b"entry":
             self.one_of(b"(")
             self.one_of(b"name")
-            name = self.name(found[-1][0] if found else None)
+            name = self.name(entries[-1][0] if entries else None)
             self.one_of(b"node")
             refuse(6, depth == DEPTH)
-            found.append((name, self.node(depth + 1)))
+            entries.append((name, self.node(depth + 1)))
             self.one_of(b")")
-        return found
+        return entries
 
     def regular(self):
         is_executable = self.one_of(b"executable", b"contents") == b"executable"

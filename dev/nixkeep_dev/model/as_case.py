@@ -30,9 +30,9 @@ def literal(value):
 
 def statements(rows):
     """The statements that make the tables and their rows."""
-    for name, found in rows.items():
+    for name, of_table in rows.items():
         yield tables.making(name)
-        for row in sorted(found, key=repr):
+        for row in sorted(of_table, key=repr):
             yield f"INSERT INTO {name} VALUES ({', '.join(map(literal, row))});"
 
 
@@ -76,8 +76,8 @@ def rows_text(rows, others):
     for name, (_, key, _) in tables.TABLES.items():
         if rows.get(name) != others.get(name):
             places = [tables.columns_of(name).index(it) for it in key.split(", ")]
-            found = sorted(rows.get(name, ()), key=lambda row: [row[at] for at in places])
-            lines = "".join(",".join(map(literal, row)) + "\n" for row in found)
+            ordered = sorted(rows.get(name, ()), key=lambda row: [row[at] for at in places])
+            lines = "".join(",".join(map(literal, row)) + "\n" for row in ordered)
             command = f"sqlite3 -quote {FILE} 'SELECT * FROM {name} ORDER BY {key}'"
             yield step_text(command, lines.encode(), b"" if name in rows else None, 0 if name in rows else 1)
 

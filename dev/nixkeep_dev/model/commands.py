@@ -65,13 +65,13 @@ def require(fact):
 
 def command_of(words):
     """The command that the words name: its common options, its subcommand, its own flags and options, its values."""
-    common, found, words = divided(words, (), COMMON, 1, has_values=False)
-    require(found and found[0] in FORMS)
-    flags, options, least, most = FORMS[found[0]]
+    common, positional, words = divided(words, (), COMMON, 1, has_values=False)
+    require(positional and positional[0] in FORMS)
+    flags, options, least, most = FORMS[positional[0]]
     given, values, rest = divided(words, flags, options, most + 1)
     require(least <= len(values) <= most and not rest)
-    check_own(found[0], given, values)
-    return SimpleNamespace(common=common, word=found[0], given=given, values=values)
+    check_own(positional[0], given, values)
+    return SimpleNamespace(common=common, word=positional[0], given=given, values=values)
 
 
 def check_own(word, given, values):

@@ -25,23 +25,23 @@ class Text:
 
     def list_of(self, item):
         self.skip(b"[")
-        found = []
+        items = []
         while not self.data.startswith(b"]", self.at):
-            if found:
+            if items:
                 self.skip(b",")
-            found.append(item())
+            items.append(item())
         self.skip(b"]")
-        return found
+        return items
 
     def tuple_of(self, *parts):
         self.skip(b"(")
-        found = []
+        values = []
         for part in parts:
-            if found:
+            if values:
                 self.skip(b",")
-            found.append(part())
+            values.append(part())
         self.skip(b")")
-        return found
+        return values
 
 
 def read(data):
@@ -53,20 +53,20 @@ def read(data):
     inputs = lambda: text.list_of(lambda: text.tuple_of(string, strings))
     env = lambda: text.list_of(lambda: text.tuple_of(string, string))
     text.skip(b"Derive")
-    found = text.tuple_of(outputs, inputs, strings, string, string, strings, env)[0]
+    listed = text.tuple_of(outputs, inputs, strings, string, string, strings, env)[0]
     refuse(17, text.at < len(data))
-    return found
+    return listed
 
 
 def outputs(data: bytes, store_dir: str) -> list[tuple] | None:
     """Name and base name of each output that has a path, in the order of the text."""
-    found = [(name.decode("latin-1"), path.decode("latin-1")) for name, path, _, _ in read(data)]
-    for name, path in found:
+    pairs = [(name.decode("latin-1"), path.decode("latin-1")) for name, path, _, _ in read(data)]
+    for name, path in pairs:
         is_full = path.startswith(store_dir + "/") and is_base(path[len(store_dir) + 1 :])
         refuse(17, not is_store_name(name) or path and not is_full)
-    names = [name for name, _ in found]
+    names = [name for name, _ in pairs]
     refuse(18, len(set(names)) < len(names))
-    return [(name, path[len(store_dir) + 1 :]) for name, path in found if path]
+    return [(name, path[len(store_dir) + 1 :]) for name, path in pairs if path]
 
 
 def quoted(data):

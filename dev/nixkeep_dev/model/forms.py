@@ -70,16 +70,16 @@ def lines_of(it: SimpleNamespace) -> list[str]:
     if it.kind in ("add-text", "add-source"):
         return [f"name: {it.name}", *(f"reference: {path}" for path in it.references)]
     if it.kind == "import":
-        found = [f"path: {it.path}", f"nar-hash: {it.digest}", *(f"reference: {path}" for path in it.references)]
-        found += [f"deriver: {it.deriver}"] * (it.deriver is not None)
-        return found + [f"ca: {it.address}"] * (it.address is not None)
+        lines = [f"path: {it.path}", f"nar-hash: {it.digest}", *(f"reference: {path}" for path in it.references)]
+        lines += [f"deriver: {it.deriver}"] * (it.deriver is not None)
+        return lines + [f"ca: {it.address}"] * (it.address is not None)
     if it.kind == "replace-runtime":
         return [f"root: {label} {path}" for label, path in it.pairs]
     if it.kind in ("collect", "delete"):
-        found = [f"ignore-liveness: {it.ignore}"] * (it.ignore is not None)
+        lines = [f"ignore-liveness: {it.ignore}"] * (it.ignore is not None)
         if it.kind == "delete":
-            return found + [f"path: {path}" for path in it.paths]
-        return found + [f"max-freed: {it.limit}"] * (it.limit is not None)
+            return lines + [f"path: {path}" for path in it.paths]
+        return lines + [f"max-freed: {it.limit}"] * (it.limit is not None)
     has_path = it.kind in ("set-permanent", "set-user-root", "set-profile", "add-temporary")
     return [f"path: {it.path}"] * has_path
 

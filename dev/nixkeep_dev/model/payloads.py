@@ -20,9 +20,9 @@ def path(store_dir, text):
 
 
 def digest(_, text):
-    found = digest_of(text, "sha256:")
-    refuse(41, found is None)
-    return found
+    decoded = digest_of(text, "sha256:")
+    refuse(41, decoded is None)
+    return decoded
 
 
 def address(_, text):
@@ -48,9 +48,9 @@ def limit_of(text: str) -> int | None:
 
 
 def limit(_, text):
-    found = limit_of(text)
-    refuse(41, found is None)
-    return found
+    count = limit_of(text)
+    refuse(41, count is None)
+    return count
 
 
 ADD = {"name": (ONE, "name", name), "reference": (MANY, "references", path)}
@@ -77,25 +77,25 @@ FORMS = {
 
 def lines_of(body):
     """Key and value of each line, and the payload."""
-    found, rest = [], body or b"\n"
+    pairs, rest = [], body or b"\n"
     while True:
         line, end, rest = rest.partition(b"\n")
         refuse(41, not end)
         if not line:
-            return found, rest
+            return pairs, rest
         try:
             key, colon, value = line.decode().partition(": ")
         except UnicodeDecodeError as error:
             raise Refused(41) from error
         refuse(41, not colon)
-        found.append((key, value))
+        pairs.append((key, value))
 
 
 def values_of(store_dir, count, values, read):
     """The value of a field of a request, from all values of its key."""
     refuse(41, count == ONE and len(values) != 1 or count == OPTIONAL and len(values) > 1)
-    found = [read(store_dir, value) for value in values]
-    return found if count == MANY else found[0] if found else None
+    payloads = [read(store_dir, value) for value in values]
+    return payloads if count == MANY else payloads[0] if payloads else None
 
 
 def request(store_dir: str, kind: str, body: bytes, **fields: Any) -> SimpleNamespace:

@@ -59,8 +59,8 @@ FAULTS = {
 def faults_of(kind: str) -> list[str | None]:
     """A thousand of what may be wrong with a kind of request, most of which are nothing; what is more often comes
     last."""
-    found = [name for name, (share, kinds) in FAULTS.items() for _ in range(share) if kind in kinds]
-    return [None] * (1000 - len(found)) + found
+    names = [name for name, (share, kinds) in FAULTS.items() for _ in range(share) if kind in kinds]
+    return [None] * (1000 - len(names)) + names
 
 
 @functools.cache
@@ -195,8 +195,8 @@ class Requests(Values):
         if wrong == 2:
             digits = self.form.pick(["2" + "0" * 51, "1" * 51, "e" * 52, ""])
         name = base[33:] if wrong != 3 else "other"
-        found = base if wrong == 4 else texts.path_of(kind, self.dir, name, references, digest)
-        return found, prefix + (texts.base32(digest) if digits is None else digits)
+        path = base if wrong == 4 else texts.path_of(kind, self.dir, name, references, digest)
+        return path, prefix + (texts.base32(digest) if digits is None else digits)
 
     def fill_root(self, made, by):
         """The fields of a request on roots, profiles and sessions, or of one that names a path alone."""

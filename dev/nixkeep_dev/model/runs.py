@@ -123,5 +123,5 @@ def difference(program: str, scenario: Scenario) -> tuple | None:
             if not is_same(wanted, came):
                 return at, wanted, came
         rows = machine.databases[FILE].final_rows() if FILE in machine.databases else {}
-        found = rows if rows is None else rows_in(f"{room}/{FILE}")
-        return None if found == rows else (len(scenario.steps), rows, found)
+        actual = rows if rows is None else rows_in(f"{room}/{FILE}")
+        return None if actual == rows else (len(scenario.steps), rows, actual)

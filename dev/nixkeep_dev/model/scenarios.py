@@ -39,16 +39,16 @@ class Scenarios(Commands):
         # (the second configuration may have another store directory)
         folders = [self.dir, by.pick([self.dir] * 6 + STORE_DIRS[4:])]
         made = [values.config(folder, Choices(each)) for folder, each in zip(folders, configs)]
-        found = Scenario(dict(zip(["c.toml", "d.toml"], made)), {}, [])
+        scenario = Scenario(dict(zip(["c.toml", "d.toml"], made)), {}, [])
         self.set_config(made[0], worlds.World())
         if world:
-            found.rows = self.first_rows(*world)
-        self.machine = found.machine()
+            scenario.rows = self.first_rows(*world)
+        self.machine = scenario.machine()
         for each in commands:
-            found.steps.append(self.command_step(found, drawn_of(each)))
+            scenario.steps.append(self.command_step(scenario, drawn_of(each)))
         if stream:
-            found.steps.append(self.stream_step(found, *stream))
-        return found
+            scenario.steps.append(self.stream_step(scenario, *stream))
+        return scenario
 
     def set_config(self, text, world):
         self.set_store(Store(policy.config_of(text), world))
@@ -88,26 +88,26 @@ class Scenarios(Commands):
         config, words = self.config_words(scenario.configs, by)
         self.follow(config)
         collects = ["collect"] * 2 if by.chance(0.2 if self.store.world.roots() else 0.5) else []
-        messages, closes = self.asked(collects, by), False
+        messages, closes = self.messages_of(collects, by), False
         for each, kinds in drawn:
             messages.append(self.message(each, self.kind(each, kinds)))
             if closes:
                 break
             closes = server.serve(self.store, messages[-1])[1]
-        messages += self.asked(by.pick(ENDS) if not closes else [], by)
+        messages += self.messages_of(by.pick(ENDS) if not closes else [], by)
         if messages and by.chance(0.3):
             messages[-1] = messages[-1][: by.number(len(messages[-1]))]
         if by.chance(0.1):
             messages.append(by.pick(ODD_ENDS))
         return Step(["--db", FILE, *words, "serve"], messages, self.cuts(sum(map(len, messages)), by))
 
-    def asked(self, kinds: Sequence[str], by: Choices) -> list[bytes]:
+    def messages_of(self, kinds: Sequence[str], by: Choices) -> list[bytes]:
         """A message of each of these kinds; none of them closes the connection."""
-        found = []
+        messages = []
         for kind in kinds:
-            found.append(self.message(drawn_of([b"", by.bytes(4), b"", b""]), kind))
-            server.serve(self.store, found[-1])
-        return found
+            messages.append(self.message(drawn_of([b"", by.bytes(4), b"", b""]), kind))
+            server.serve(self.store, messages[-1])
+        return messages
 
     def cuts(self, size: int, by: Choices) -> list[int]:
         """Places at which an input is cut, if it is."""

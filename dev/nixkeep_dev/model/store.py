@@ -129,8 +129,8 @@ def add_import(store, it, _):
 
 
 def info(store, it, _):
-    found = store.world.objects[store.valid(it.path)]
-    digest, size = "sha256:" + texts.base32(texts.sha256(found.archive)), len(found.archive)
+    stored = store.world.objects[store.valid(it.path)]
+    digest, size = "sha256:" + texts.base32(texts.sha256(stored.archive)), len(stored.archive)
     lines = [
         ("StorePath", store.full(it.path)),
         ("URL", f"nar/{it.path}"),
@@ -139,9 +139,9 @@ def info(store, it, _):
         ("FileSize", size),
         ("NarHash", digest),
         ("NarSize", size),
-        ("References", " ".join(sorted(found.references))),
-        ("Deriver", found.deriver),
-        ("CA", found.address),
+        ("References", " ".join(sorted(stored.references))),
+        ("Deriver", stored.deriver),
+        ("CA", stored.address),
     ]
     return "".join(f"{key}: {value}\n" for key, value in lines if value is not None)
 

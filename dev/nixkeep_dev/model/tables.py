@@ -151,9 +151,9 @@ class Database:
         """The world of the file, or 21 or 22."""
         if self.world is None:
             refuse(21, self.rows is None)
-            world, found = world_of(self.rows) if self.rows else (World(), store_dir)
-            refuse(22, found != store_dir)
-            self.world, self.dir = world, found
+            world, directory = world_of(self.rows) if self.rows else (World(), store_dir)
+            refuse(22, directory != store_dir)
+            self.world, self.dir = world, directory
         refuse(22, self.dir != store_dir)
         return self.world
 

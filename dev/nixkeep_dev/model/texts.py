@@ -51,10 +51,10 @@ def unbase32(text: str, size: int) -> bytes | None:
 
 def folded(digest: bytes, size: int = 20) -> bytes:
     """As many bytes, each the exclusive or of the bytes of the digest that are that many places apart."""
-    found = bytearray(size)
+    octets = bytearray(size)
     for at, byte in enumerate(digest):
-        found[at % size] ^= byte
-    return bytes(found)
+        octets[at % size] ^= byte
+    return bytes(octets)
 
 
 def is_plain_name(text: str) -> bool:

@@ -27,9 +27,9 @@ class Worked:
 def body(base, archive, references=(), digest=None, **lines):
     """The body of an import."""
     digest = digest or "sha256:" + texts.base32(texts.sha256(archive))
-    found = [f"path: {base}", f"nar-hash: {digest}", *(f"reference: {reference}" for reference in references)]
-    found += [f"{key}: {value}" for key, value in lines.items()]
-    return "\n".join([*found, "", ""]).encode() + archive
+    fields = [f"path: {base}", f"nar-hash: {digest}", *(f"reference: {reference}" for reference in references)]
+    fields += [f"{key}: {value}" for key, value in lines.items()]
+    return "\n".join([*fields, "", ""]).encode() + archive
 
 
 def adds():
@@ -231,8 +231,8 @@ def reply(status, text, *fields):
 
 
 def streams():
-    found = Worked(CONFIG).ask(message("GET /nothing", "", "bob") + message("GET /nothing"))
-    yield found, reply("403 Forbidden", "denied: connect\n") + reply("404 Not Found", "refused: 39 no-route\n")
+    answered = Worked(CONFIG).ask(message("GET /nothing", "", "bob") + message("GET /nothing"))
+    yield answered, reply("403 Forbidden", "denied: connect\n") + reply("404 Not Found", "refused: 39 no-route\n")
     stream = b"GET /paths HTTP/1.1\r\nstore-user: ann\r\n\r\n"
     stream += b"POST /text HTTP/1.1\r\nstore-user: ann\r\ncontent-length: 10\r\n\r\nname: a\n\nx"
     first, second = reply("200 OK", ""), reply("200 OK", "/nix/store/12wigjpizrn8axaqxj288q1b751qmwya-a\n")

@@ -26,55 +26,55 @@ class World:
 
     def roots(self) -> list[Root]:
         """All roots in their order."""
-        found = {Root(PERMANENT, base, f"gcroots/{name}") for name, base in self.permanent.items()}
-        found |= {Root(USER, base, f"gcroots/per-user/{user}/{name}") for (user, name), base in self.user.items()}
+        roots = {Root(PERMANENT, base, f"gcroots/{name}") for name, base in self.permanent.items()}
+        roots |= {Root(USER, base, f"gcroots/per-user/{user}/{name}") for (user, name), base in self.user.items()}
         for (user, name), profile in self.profiles.items():
             label = f"profiles/per-user/{user}/{name}"
-            found |= {Root(PROFILE, base, f"{label}-{n}-link") for n, base in profile.generations.items()}
-        found |= {Root(RUNTIME, base, label) for label, base in self.runtime}
-        found |= {Root(TEMPORARY, base, f"{{temp:{session}}}") for _, session, base in self.temporary}
-        return sorted(found)
+            roots |= {Root(PROFILE, base, f"{label}-{n}-link") for n, base in profile.generations.items()}
+        roots |= {Root(RUNTIME, base, label) for label, base in self.runtime}
+        roots |= {Root(TEMPORARY, base, f"{{temp:{session}}}") for _, session, base in self.temporary}
+        return sorted(roots)
 
     def next_of(self, base: str, config: dict) -> set[str]:
         """The valid paths to which an edge leads."""
-        found = self.objects[base]
-        ends = set(found.references)
+        stored = self.objects[base]
+        ends = set(stored.references)
         if config["keep-outputs"]:
-            ends |= {output for _, output in found.outputs}
+            ends |= {output for _, output in stored.outputs}
         if config["keep-derivations"]:
-            ends |= {found.deriver}
+            ends |= {stored.deriver}
         return ends & self.objects.keys()
 
     def reached(self, base: str, config: dict) -> set[str]:
         """All that a path reaches, itself too."""
-        found, left = set(), [base]
+        seen, left = set(), [base]
         while left:
             at = left.pop()
-            if at not in found:
-                found.add(at)
+            if at not in seen:
+                seen.add(at)
                 left += self.next_of(at, config)
-        return found
+        return seen
 
     def roots_of(self, config: dict) -> dict[str, list]:
         """The roots that reach each live path, in their order."""
-        found, reach = {}, {}
+        by_base, reach = {}, {}
         for root in self.roots():
             if root.target not in reach:
                 reach[root.target] = self.reached(root.target, config)
             for base in reach[root.target]:
-                found.setdefault(base, []).append(root)
-        return found
+                by_base.setdefault(base, []).append(root)
+        return by_base
 
     def dead(self, config: dict) -> set[str]:
         return self.objects.keys() - self.roots_of(config).keys()
 
     def referrers(self, bases: Iterable[str], among: Set[str]) -> set[str]:
         """These paths, and all among the given ones that have a way of references to one of them."""
-        found, grows = set(bases), True
+        reached, grows = set(bases), True
         while grows:
-            more = {it for it in among - found if self.objects[it].references & found}
-            found, grows = found | more, bool(more)
-        return found
+            more = {it for it in among - reached if self.objects[it].references & reached}
+            reached, grows = reached | more, bool(more)
+        return reached
 
     def collected(self, config: dict, limit: int | None) -> set[str]:
         """The paths that a collection deletes; with a limit, group by group until their bytes reach it."""

@@ -92,27 +92,27 @@ def every(of_bodies: bool) -> list[tuple[str, Edit]]:
 def others() -> list[list]:
     """The edits of bodies that the gate doesn't always try, in lists that one check tries: they are of one crate, and
     change different functions."""
-    found = []
+    groups = []
     for crate, edit in every(True):
         if (crate, edit.name) not in always():
-            free = [it for it in found if it[0][0] == crate
+            free = [it for it in groups if it[0][0] == crate
                     and not any({*edit.functions} & {*one.functions} for _, one in it)]
             if free:
                 free[0].append((crate, edit))
             else:
-                found.append([(crate, edit)])
-    return found
+                groups.append([(crate, edit)])
+    return groups
 
 
 @functools.cache
 def definitions() -> list[list]:
     """The edits of definitions and constants that the gate doesn't always try, in lists of neighbours: they are of one
     crate, and change the same crates below it, so a check of one takes much of what another has kept."""
-    found = {}
+    groups = {}
     for crate, edit in every(False):
         if (crate, edit.name) not in always():
-            found.setdefault((crate, *sorted({*crates_below(edit)})), []).append((crate, edit))
-    return [of_one[at : at + NEIGHBOURS] for of_one in found.values() for at in range(0, len(of_one), NEIGHBOURS)]
+            groups.setdefault((crate, *sorted({*crates_below(edit)})), []).append((crate, edit))
+    return [of_one[at : at + NEIGHBOURS] for of_one in groups.values() for at in range(0, len(of_one), NEIGHBOURS)]
 
 
 def crates_below(edit: Edit) -> list[str]:
@@ -149,10 +149,10 @@ def equal_of_day(day: int) -> list[str]:
 
 def having(names: Iterable[str] = ()) -> list[str]:
     """The crates that have further edits; fails where one of these names isn't among them."""
-    found = sorted({path.split("/")[-3] for path in glob.glob(f"{program.HERE}/crates/*/further/*.edit")})
-    if unknown := [name for name in names if name not in found]:
+    crates = sorted({path.split("/")[-3] for path in glob.glob(f"{program.HERE}/crates/*/further/*.edit")})
+    if unknown := [name for name in names if name not in crates]:
         report.fail(f"no further edits in crates/: {' '.join(unknown)}")
-    return found
+    return crates
 
 
 def excused(file: str = EXCUSED) -> list[tuple]:
@@ -164,7 +164,7 @@ def excused(file: str = EXCUSED) -> list[tuple]:
 
 def changes(path):
     """The changes of an edit: the file, the old text and the new."""
-    found, file, old = [], None, None
+    edited, file, old = [], None, None
     for line in Path(path).read_text(encoding="utf-8").split("\n"):
         kind, _, text = line.partition(": ")
         if kind == "file":
@@ -172,8 +172,8 @@ def changes(path):
         elif kind == "old":
             old = text
         elif line.startswith("new:"):
-            found.append((file, old, text))
-    return found
+            edited.append((file, old, text))
+    return edited
 
 
 def laid(changed: Iterable[tuple], texts: dict[str, str]) -> dict[str, str] | None:
@@ -205,7 +205,7 @@ class Check:
     def errors_of(self, function: str) -> list[str]:
         """The errors in the proofs of a function and of its closures."""
         folder = function.replace("fn::", "+").replace("::", "/")
-        return [text for at, found in self.errors.items() if f"{at}/".startswith(f"{folder}/") for text in found]
+        return [text for at, texts in self.errors.items() if f"{at}/".startswith(f"{folder}/") for text in texts]
 
     def others(self, function: str) -> set[str]:
         """The functions that were changed, that aren't proved and that this one calls, its own closures left out."""

@@ -19,8 +19,8 @@ def name_at(text, old):
     end = text.find("\n", text.index(old) + len(old) - len(old.lstrip()))
     for line in reversed(text[:end].split("\n")):
         if line and not line[0].isspace() and line[0] not in "{})-/":
-            found = NAMED.match(line)
-            return found and found[1]
+            match = NAMED.match(line)
+            return match and match[1]
     return None
 
 
@@ -30,8 +30,8 @@ def definitions(texts):
         name = None
         for line in text.split("\n") if file.startswith("specs/") else ():
             if line and not line[0].isspace():
-                found = NAMED.match(line)
-                name = found and found[1]
+                match = NAMED.match(line)
+                name = match and match[1]
             if name:
                 yield name, {*WORD.findall(line)}
 
@@ -45,10 +45,10 @@ def texts_of(texts):
 
 def citing(pairs: Iterable[tuple], texts: dict[str, str]) -> list[str]:
     """The functions that cite what these changes change or, where none does, what cites it in turn."""
-    found = {name_at(texts[file], old) for file, old, _ in pairs if texts.get(file, "").count(old) == 1} - {None}
+    names = {name_at(texts[file], old) for file, old, _ in pairs if texts.get(file, "").count(old) == 1} - {None}
     seen, every = set(), [*definitions(texts)]
-    while found - seen:
-        if citing := [path for path, words in texts_of(texts) if words & found]:
+    while names - seen:
+        if citing := [path for path, words in texts_of(texts) if words & names]:
             return citing
-        seen, found = seen | found, found | {name for name, words in every if words & found}
+        seen, names = seen | names, names | {name for name, words in every if words & names}
     return []

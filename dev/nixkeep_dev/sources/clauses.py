@@ -28,21 +28,21 @@ def clauses_in(text: str) -> Iterator[list[str]]:
 def without_clauses() -> int:
     """How many public functions of the product have no `ensures`."""
     files = [file for file in git("ls-files", "crates/*/src/*.rt") if file.split("/")[1] not in NO_PRODUCT]
-    return sum(not found for file in files for _, _, found in contracts.functions_in(file))
+    return sum(not clauses for file in files for _, _, clauses in contracts.functions_in(file))
 
 
 def counted() -> dict[str, float]:
     """How many lines of clauses are long, what part of all clauses has the text of another, in percent, how many wrong
     bodies survive them, for how many crates no list says which bodies by `rt plant` do, and how many have no sum at
     which all wrong bodies were refused."""
-    found = [lines for path in git("ls-files", "crates/*/src/*.rt") for lines in clauses_in(text_of(path))]
-    counts = collections.Counter(" ".join(line.strip() for line in lines) for lines in found)
+    clauses = [lines for path in git("ls-files", "crates/*/src/*.rt") for lines in clauses_in(text_of(path))]
+    counts = collections.Counter(" ".join(line.strip() for line in lines) for lines in clauses)
     repeated = sum(count for count in counts.values() if count > 1)
     defined = [line for path in git("ls-files", "crates/*/specs/*.antt") for line in text_of(path).splitlines()]
-    return {"clause lines above 120 characters": sum(len(line) > COLUMNS for lines in found for line in lines),
+    return {"clause lines above 120 characters": sum(len(line) > COLUMNS for lines in clauses for line in lines),
             "lines of definitions above 120 characters": sum(len(line) > COLUMNS and not IMPORT.match(line)
                                                              for line in defined),
-            "percent of clauses that are repeated": round(100 * repeated / len(found), 1),
+            "percent of clauses that are repeated": round(100 * repeated / len(clauses), 1),
             "public functions without clauses": without_clauses(),
             "wrong bodies that they accept": len(bodies.excused(bodies.SURVIVORS)),
             "crates whose bodies by rt plant are not recorded": list(plants.listed().values()).count(None),

@@ -55,14 +55,14 @@ def functions_in(path: str) -> Iterator[tuple[str | None, str, list[str]]]:
 
 def contract(lines, at):
     """The clauses of the function that begins in a line."""
-    found, indent = [], len(lines[at]) - len(lines[at].lstrip())
+    clauses, indent = [], len(lines[at]) - len(lines[at].lstrip())
     for number in range(at + 1, len(lines)):
         line = lines[number]
         if line.strip() and len(line) - len(line.lstrip()) == indent and not line.lstrip().startswith((")", ">")):
             break
         if it := ENSURES.match(line):
-            found.append(it[1] or DASH)
-    return found
+            clauses.append(it[1] or DASH)
+    return clauses
 
 
 def declared(crate, module, name, shown):
@@ -97,17 +97,17 @@ def exports(crate):
 
 def calls_of(crate: str, shown: str | None = None) -> dict[str, list]:
     """The calls of a crate by name, each with its clauses, in the order of its root file."""
-    shown, found = shown or crate, {}
+    shown, calls = shown or crate, {}
     for module, name in exports(crate):
         first = module.split("::")[0]
         if name is None:
             path = f"crates/{crate}/src/{module}.rt"
-            found |= {f"{shown}::{module}::{it}": clauses for owner, it, clauses in functions_in(path) if not owner}
+            calls |= {f"{shown}::{module}::{it}": clauses for owner, it, clauses in functions_in(path) if not owner}
         elif exists(f"crates/{crate}/src/{first}.rt"):
-            found |= dict(declared(crate, module, name, shown))
+            calls |= dict(declared(crate, module, name, shown))
         elif first not in PUBLIC and exists(f"crates/{first}/src/lib.rt"):
-            found |= dict(passed_on(first, module.partition("::")[2], name, shown))
-    return {call: clauses for call, clauses in found.items() if clauses}
+            calls |= dict(passed_on(first, module.partition("::")[2], name, shown))
+    return {call: clauses for call, clauses in calls.items() if clauses}
 
 
 def passed_on(crate, module, name, shown):

@@ -18,14 +18,14 @@ COUNTS = re.compile(r"^plants crate=.*$", re.M)
 def listed() -> dict[str, list | None]:
     """The accepted bodies of each crate that the list has: lines `KIND FILE FUNCTION: BODY`. None where they aren't
     recorded."""
-    found, crate = {}, None
+    by_crate, crate = {}, None
     for line in Path(program.HERE, NAME).read_text().splitlines():
         if line.startswith("  "):
-            found[crate].append(line.strip())
+            by_crate[crate].append(line.strip())
         elif line and not line.startswith("#"):
             crate, _, more = line.partition(":")
-            found[crate] = None if more.strip() == NOT_RECORDED else []
-    return found
+            by_crate[crate] = None if more.strip() == NOT_RECORDED else []
+    return by_crate
 
 
 def write(by_crate: dict[str, list | None]) -> None:
@@ -43,8 +43,8 @@ def recorded_crates() -> list[str]:
 
 def of_day(day: int) -> list[str]:
     """The crate that the gate tries on a day: as many days as there are crates try each."""
-    found = recorded_crates()
-    return found[day % len(found) : ][:1] if found else []
+    crates = recorded_crates()
+    return crates[day % len(crates) : ][:1] if crates else []
 
 
 class Said:

@@ -32,11 +32,11 @@ def cell(calls):
     return f"`{prefix}{{{', '.join(call.removeprefix(prefix) for call in calls)}}}`"
 
 
-def clause_cell(asked, calls, known):
+def clause_cell(text, calls, known):
     """The clauses of some calls in the order of the source: those that the cell asks for and that there are."""
-    found = list(dict.fromkeys(it for call in calls for it in known[call]))
-    words = found if asked.strip() == ALL else asked.replace("`", "").replace(",", " ").split()
-    wanted = [it for it in found if it in words]
+    clauses = list(dict.fromkeys(it for call in calls for it in known[call]))
+    words = clauses if text.strip() == ALL else text.replace("`", "").replace(",", " ").split()
+    wanted = [it for it in clauses if it in words]
     return spelled(wanted)
 
 
@@ -49,14 +49,14 @@ def section_made(crate, text, known):
     with a question mark as its promise."""
     said = {}
 
-    def row(found):
-        calls = [it for it in named(found[1]) if it in known]
+    def row(match):
+        calls = [it for it in named(match[1]) if it in known]
         if not calls:
             return ""
-        clauses = clause_cell(found[2], calls, known)
+        clauses = clause_cell(match[2], calls, known)
         for it in calls:
             said.setdefault(it, []).extend(clauses.replace("`", "").split(", "))
-        return f"| {cell(calls)} | {clauses} | {found[3]} |"
+        return f"| {cell(calls)} | {clauses} | {match[3]} |"
 
     made, more = ROW.sub(row, text), []
     for call, clauses in known.items():

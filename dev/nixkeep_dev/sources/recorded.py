@@ -54,12 +54,12 @@ def record(crates: Iterable[str], named: dict[str, list]) -> None:
     """Writes the present sums of these crates."""
     path = Path(program.HERE, NAME)
     comments = [it for it in path.read_text().splitlines() if it.startswith("#")]
-    found = {**listed(), **{it: sum_of(it, named) for it in crates}}
-    path.write_text("\n".join([*comments, *(f"{it}: {found[it]}" for it in sorted(found)), ""]))
+    sums = {**listed(), **{it: sum_of(it, named) for it in crates}}
+    path.write_text("\n".join([*comments, *(f"{it}: {sums[it]}" for it in sorted(sums)), ""]))
 
 
 def changed_crates(crates: Iterable[str], named: dict[str, list]) -> list[str]:
     """Those of these crates that aren't as they were when the list got their sums, and those that it doesn't name."""
-    found = listed()
-    compared = [it for it in crates if found.get(it) != NOT_RECORDED]
-    return [it for it in compared if found.get(it) != sum_of(it, named)]
+    sums = listed()
+    compared = [it for it in crates if sums.get(it) != NOT_RECORDED]
+    return [it for it in compared if sums.get(it) != sum_of(it, named)]

@@ -44,11 +44,11 @@ def verdict_of(edit, checked):
     """What a check says of a wrong body; None where its functions wait for others."""
     if fault := not_checked(checked):
         return fault
-    found = {function: checked.is_refused(function) for function in edit.functions}
-    refused = [function for function, is_so in found.items() if is_so]
+    by_function = {function: checked.is_refused(function) for function in edit.functions}
+    refused = [function for function, is_so in by_function.items() if is_so]
     if refused:
         return Verdict(Kind.BY_SEARCH if all(map(checked.is_by_search_alone, refused)) else Kind.REFUSED)
-    if None in found.values():
+    if None in by_function.values():
         return None
     is_empty = any(map(checked.is_not_proved, edit.functions))
     why = f"NOT REFUSED for what it does ({'; '.join(map(checked.why_not, edit.functions))})"
@@ -104,11 +104,11 @@ class Tried:
                 self.verdicts |= dict.fromkeys(left, NOT_ONCE)
                 return
             checked = self.check(changed, taken, kept)
-            found = {edit: verdict_of(edit, checked) for edit in taken}
-            waiting = [edit for edit in taken if not found[edit]]
+            verdicts = {edit: verdict_of(edit, checked) for edit in taken}
+            waiting = [edit for edit in taken if not verdicts[edit]]
             if len(waiting) == len(taken):
-                found, waiting = dict.fromkeys(taken, FOR_ANOTHER), []
-            self.verdicts |= {edit: verdict for edit, verdict in found.items() if verdict}
+                verdicts, waiting = dict.fromkeys(taken, FOR_ANOTHER), []
+            self.verdicts |= {edit: verdict for edit, verdict in verdicts.items() if verdict}
             edits = [*waiting, *left]
 
     def try_equal(self, edits, kept):

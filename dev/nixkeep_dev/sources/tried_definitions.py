@@ -26,11 +26,11 @@ UNREAD = re.compile(r"is not in scope|is no name|operand is missing|expected the
 
 def changes_of(edit):
     """The changes of an edit by the crate that they are of, with the files' paths in it."""
-    found = {}
+    by_crate = {}
     for file, old, new in edit.pairs:
         at = os.path.normpath(f"{edit.crate}/{file}")
-        found.setdefault(at.split("/")[0], []).append((at.partition("/")[2], old, new))
-    return found
+        by_crate.setdefault(at.split("/")[0], []).append((at.partition("/")[2], old, new))
+    return by_crate
 
 
 def errors_of(said):
@@ -48,10 +48,9 @@ def judged(status, said, changed):
         return "NOT REFUSED"
     if status != 1:
         return f"NOT TRIED: a check ended with status {status}:\n{said[-600:]}"
-    if found := unread(said, changed):
-        return f"its text can't be read: {found[0]}"
-    found = errors_of(said)
-    if any(not any(name in it[3] for name in bodies.OF_NAMES) for it in found) or "it is not proved" in said:
+    if faults := unread(said, changed):
+        return f"its text can't be read: {faults[0]}"
+    if any(not any(name in it[3] for name in bodies.OF_NAMES) for it in errors_of(said)) or "it is not proved" in said:
         return None
     return f"NOT REFUSED for what it says:\n{said[-600:]}"
 
@@ -109,10 +108,10 @@ def try_each(edits: Iterable[bodies.Edit], named: dict[str, list], bound: Bound,
              is_tried_without: bool) -> dict[bodies.Edit, Verdict]:
     """Tries edits of a crate that change the same crates, one after another; returns what came of each. Once the bound
     is spent only those are tried that the gate always tries."""
-    found = {}
+    verdicts = {}
     with tempfile.TemporaryDirectory(prefix="rt-edits-") as kept:
         for edit in edits:
             if edit.key() in bodies.always() or not bound.leaves_out([edit]):
                 why = why_not(edit, named, kept, is_tried_without)
-                found[edit] = Verdict(Kind.SURVIVES, why) if why else Verdict(Kind.REFUSED)
-    return found
+                verdicts[edit] = Verdict(Kind.SURVIVES, why) if why else Verdict(Kind.REFUSED)
+    return verdicts

@@ -28,10 +28,10 @@ ALONE = "set -e; shopt -s expand_aliases\n%s\nset +e\n"
 
 def blocks(page, section):
     """The blocks of commands of a section, each with its kind."""
-    found = command_blocks(page).get(section)
-    if not found:
+    of_section = command_blocks(page).get(section)
+    if not of_section:
         sys.exit(f"as-shown: no command is shown under {section!r}")
-    return found
+    return of_section
 
 
 def of_case(text):
@@ -63,10 +63,10 @@ def main():
         sys.exit(print(__doc__))
     name, *sections = sys.argv[1:]
     page = Path(HERE, name).read_text()
-    found = [it for section in sections for it in blocks(page, section)]
-    came, status = output_of([ALONE % of_case(text) if kind else "".join(compared(text)) for kind, text in found])
+    commands = [it for section in sections for it in blocks(page, section)]
+    came, status = output_of([ALONE % of_case(text) if kind else "".join(compared(text)) for kind, text in commands])
     shown, seen = [], []
-    for (kind, text), output in zip(found, came):
+    for (kind, text), output in zip(commands, came):
         if kind:
             print(output, end="")
         else:
@@ -74,7 +74,7 @@ def main():
             seen += output.splitlines()
     differs = list(difflib.unified_diff(shown, seen, name, "came", lineterm=""))
     differs += [f"as-shown: a command ended with {status}"] * (status != 0)
-    count = sum(len(text.splitlines() if kind else list(compared(text))) for kind, text in found)
+    count = sum(len(text.splitlines() if kind else list(compared(text))) for kind, text in commands)
     print("\n".join(differs) if differs else f"{count} commands")
     return 1 if differs else 0
 

@@ -60,8 +60,8 @@ def rows_of_routes(text: str) -> set[tuple[int, str]]:
     looped = re.compile(r"^  \$ for \w+ in ([^;]*); do sed .*<<END\n((?:  > .*\n)*?)  > END\n", re.M)
     for words, rows in looped.findall(text):
         text += "".join(rows.replace("ROUTE", f"/{word.rpartition(':')[2]}/") for word in words.split())
-    found = re.findall(r"^  (?:> |.*<<<['\"])(\d+) [a-z-]+: \S+ (\w+ \S+)", text, re.M)
-    return {(int(number), target) for number, target in found}
+    matches = re.findall(r"^  (?:> |.*<<<['\"])(\d+) [a-z-]+: \S+ (\w+ \S+)", text, re.M)
+    return {(int(number), target) for number, target in matches}
 
 
 def not_in_table_of_routes() -> Iterator[str]:

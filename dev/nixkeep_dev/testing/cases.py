@@ -168,7 +168,7 @@ def run_case(case: str, programs: dict[str, str], seconds: float = SECONDS) -> R
         raise ValueError("it has no step")
     with tempfile.TemporaryDirectory(prefix="case-") as room:
         paths = run_steps(steps, room, programs, seconds)
-        found = [(step, difference(step, path), missing(path)) for step, path in zip(steps, paths)]
-    wrong = [(step, why) for step, why, _ in found if why]
-    prepared = sum(step.only_prepares() for step, why, what in found if not why and not what)
-    return Ran(len(steps), wrong, [(step, what) for step, why, what in found if what and not why], prepared)
+        results = [(step, difference(step, path), missing(path)) for step, path in zip(steps, paths)]
+    wrong = [(step, why) for step, why, _ in results if why]
+    prepared = sum(step.only_prepares() for step, why, what in results if not why and not what)
+    return Ran(len(steps), wrong, [(step, what) for step, why, what in results if what and not why], prepared)

@@ -41,7 +41,7 @@ class Lines(socketserver.ThreadingUnixStreamServer):
     daemon_threads, request_queue_size = True, 1000
 
     def __init__(self, place: str):
-        self.found, self.lock = collections.defaultdict(set), threading.Lock()
+        self.by_file, self.lock = collections.defaultdict(set), threading.Lock()
         super().__init__(place, socketserver.StreamRequestHandler)
 
     def finish_request(self, request, _):
@@ -49,7 +49,7 @@ class Lines(socketserver.ThreadingUnixStreamServer):
             files = json.load(said)
             with self.lock:
                 for file, lines in files.items():
-                    self.found[file].update(lines)
+                    self.by_file[file].update(lines)
 
 
 @contextlib.contextmanager
@@ -77,8 +77,8 @@ def place_in(folder: str) -> str:
 
 def measured_tests() -> list[str]:
     """The names of the tests that are measured, those that take longest first."""
-    found = [f"tools/{it}" for it in scripts("tools", "test_") if it not in NO_TOOL]
-    return [parts.TEAM, *sorted(found, key=lambda it: parts.LONGEST.index(it) if it in parts.LONGEST else len(found))]
+    tests = [f"tools/{it}" for it in scripts("tools", "test_") if it not in NO_TOOL]
+    return [parts.TEAM, *sorted(tests, key=lambda it: parts.LONGEST.index(it) if it in parts.LONGEST else len(tests))]
 
 
 def short(name: str) -> str:
@@ -105,13 +105,13 @@ class Measured:
                 self.fault = ran.returncode and f"{self.name}:\n{ran.stdout[-1500:]}"
                 if not self.fault:
                     break
-        self.lines = lines.found
+        self.lines = lines.by_file
 
 
-def union(found: Iterable[Measured]) -> dict[str, set[int]]:
+def union(measured: Iterable[Measured]) -> dict[str, set[int]]:
     """The lines that any of these tests ran."""
     made = collections.defaultdict(set)
-    for file, lines in (it for one in found for it in one.lines.items()):
+    for file, lines in (it for one in measured for it in one.lines.items()):
         made[file] |= lines
     return made
 
@@ -131,6 +131,6 @@ def percents(lines: dict[str, set[int]], top: str) -> tuple[int, list[tuple[str,
     rows = re.findall(r"^(\S+) +(\d+) +(\d+) +(\d+)%", printed, re.M)
     if not rows:
         report.fail(f"coverage measured nothing: {printed[-1000:]}")
-    found = {name: 100 * (1 - int(missed) / max(int(lines), 1)) for name, lines, missed, _ in rows}
+    by_file = {name: 100 * (1 - int(missed) / max(int(lines), 1)) for name, lines, missed, _ in rows}
     # (a whole number: some lines run only if something takes its time)
-    return int(found.pop("TOTAL")), sorted(found.items(), key=lambda it: it[1])
+    return int(by_file.pop("TOTAL")), sorted(by_file.items(), key=lambda it: it[1])

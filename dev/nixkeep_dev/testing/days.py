@@ -25,12 +25,12 @@ def of_day(items: Iterable, day: int, count: int = DAYS) -> list:
 def balanced(items: Iterable, cost: Callable, count: int = DAYS) -> list[list]:
     """The items of each of this many days, so that no day costs much more than another: those that cost most are placed
     first."""
-    found, taken = [[] for _ in range(count)], [0] * count
+    shares, taken = [[] for _ in range(count)], [0] * count
     for item in sorted(items, key=lambda it: -cost(it)):
         at = taken.index(min(taken))
-        found[at].append(item)
+        shares[at].append(item)
         taken[at] += cost(item)
-    return found
+    return shares
 
 
 def in_turn(items: Sequence, day: int, count: int = DAYS) -> list:

@@ -28,12 +28,12 @@ REFERENCE = Path(f"{HERE}/docs/REFERENCE.md").read_text()
 
 def routes() -> dict[str, list[str]]:
     """The methods of each route, by its pattern, as the table there has them."""
-    found = {}
+    methods = {}
     for line in REFERENCE.splitlines():
         row = re.match(r"\| ((?:GET|POST|DELETE)(?:, \w+)*) (?:\| )?(`/[^|]*`) \|", line)
         for pattern in re.findall(r"`([^`]+)`", row[2]) if row else []:
-            found[pattern] = row[1].split(", ")
-    return found
+            methods[pattern] = row[1].split(", ")
+    return methods
 
 
 def fits(pattern: str, target: str) -> bool:
@@ -52,7 +52,7 @@ def head_of(status: int, length: int, media: str = "text/plain", allow: list[str
 # ---- requests, and the commands that ask the same
 
 
-class Asked:
+class Request:
     """A request over HTTP; its command and what that reads; and what is to come of both, where it is computed here."""
 
     def __init__(self, user: str, route: str, command: str, wanted: str | bytes | None = None, body: bytes = b"",
@@ -65,9 +65,9 @@ class Asked:
         return f"{self.user} {self.method} {self.target}"
 
 
-def requests() -> Iterator[Asked]:
+def requests() -> Iterator[Request]:
     """Requests one after another over one store, as those who are asked here find it."""
-    of_ann, of_root = functools.partial(Asked, "ann"), functools.partial(Asked, "root")
+    of_ann, of_root = functools.partial(Request, "ann"), functools.partial(Request, "root")
     nar, drv = archive(b"mycontent\n"), archive(derivation({"out": "1" * 32 + "-o"}))
     large, none, done = archive(random.Random(3).randbytes(200_000)), "7" * 32 + "-none", "done\n"
     a, d = text_path("a", b"x"), "0" * 32 + "-d.drv"
@@ -79,7 +79,7 @@ def requests() -> Iterator[Asked]:
         return of_user("POST /import", "import", wanted, body, body)
 
     yield of_ann("GET /report", "report")
-    yield Asked("eve", "GET /report", "report", "denied: connect\n")
+    yield Request("eve", "GET /report", "report", "denied: connect\n")
     yield of_ann("POST /text", "add-text a", full(a), text("a", b"x"), b"x")
     yield of_ann("POST /source", f"add-source myfile {a}", full(f), text("myfile", nar, a), nar)
     yield of_ann("POST /source", "add-source cut", "refused: 1 truncated\n", text("cut", nar[:-1]), nar[:-1])

@@ -50,7 +50,7 @@ def to_run(request: pytest.FixtureRequest) -> list[bodies.Edit]:
 
 def together(edits: Iterable[bodies.Edit], key: Callable) -> dict:
     """The edits that have the same key, by it."""
-    found = {}
+    groups = {}
     for edit in edits:
-        found.setdefault(key(edit), []).append(edit)
-    return found
+        groups.setdefault(key(edit), []).append(edit)
+    return groups

@@ -47,15 +47,15 @@ class Names:
     def imported(self, path: str, node: ast.ImportFrom) -> dict[str, str]:
         """The files of the modules that an import names, by their names in this one. It notes other names."""
         package = name_of(path).split(".")[:-node.level] if node.level else []
-        origin, found = ".".join([*package, *([node.module] if node.module else [])]), {}
+        origin, names = ".".join([*package, *([node.module] if node.module else [])]), {}
         for name in node.names:
             file = self.files.get(f"{origin}.{name.name}" if origin else name.name)
             if file:
-                found[name.asname or name.name] = file
+                names[name.asname or name.name] = file
             elif origin in self.files:
                 self.of_modules[self.files[origin], name.name].add(path)
                 self.importers[self.files[origin]].add(path)
-        return found
+        return names
 
     def are_called(self, path: str, name: str, owner: str | None) -> bool:
         """Whether another module names a function, or a method of the class `owner`."""

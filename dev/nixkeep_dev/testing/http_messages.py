@@ -35,22 +35,22 @@ def lines(*pairs: tuple, payload: bytes = b"") -> bytes:
 
 def replies(written: bytes) -> tuple[list, bytes]:
     """The whole replies one by one, each its head and its text; and what is left after them."""
-    found = []
+    complete = []
     while True:
         head, end, rest = written.partition(b"\r\n\r\n")
         length = re.search(rb"content-length: (\d+)", head)
         if not end or not length or len(rest) < int(length[1]):
-            return found, written
-        found.append((head, rest[: int(length[1])]))
+            return complete, written
+        complete.append((head, rest[: int(length[1])]))
         written = rest[int(length[1]) :]
 
 
 def all_replies(written: bytes, count: int) -> list[tuple]:
     """As many replies as there were messages, and nothing else."""
-    found, left = replies(written)
-    if left or len(found) != count:
-        report.fail(f"{len(found)} replies to {count} messages, and {left[:300]!r}")
-    return found
+    complete, left = replies(written)
+    if left or len(complete) != count:
+        report.fail(f"{len(complete)} replies to {count} messages, and {left[:300]!r}")
+    return complete
 
 
 def next_replies(output: BufferedReader, count: int) -> list:

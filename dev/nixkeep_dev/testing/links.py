@@ -26,17 +26,17 @@ def long_rows(name: str, text: str) -> list[str]:
 
 def anchors(text: str) -> list[str]:
     """The names under which the headings of a page are found, as GitHub makes them."""
-    found = []
+    names = []
     for it in re.findall(r"^#+ +(.*?) *#*$", without_blocks(text), re.M):
         shown = re.sub(r"\[([^\]]*)\]\([^)]*\)", r"\1", it)
         made = re.sub(r"[^\w\- ]", "", shown.lower()).replace(" ", "-")
-        found.append(f"{made}-{found.count(made)}" if made in found else made)
-    return found
+        names.append(f"{made}-{names.count(made)}" if made in names else made)
+    return names
 
 
 def dead_links(name: str, text: str) -> list[str]:
     """The links on a page that lead nowhere."""
-    found, bare = [], without_blocks(text)
+    dead, bare = [], without_blocks(text)
     for it in LINK.finditer(bare):
         place, _, anchor = it[1].partition("#")
         if re.match(r"\w+:", it[1]):
@@ -45,8 +45,8 @@ def dead_links(name: str, text: str) -> list[str]:
         to = os.path.normpath(Path(name).parent / place) if place else name
         is_there = Path(f"{HERE}/{to}").exists()
         if not is_there or anchor and to.endswith(".md") and anchor not in anchors(text_of(to)):
-            found.append(f"{name}:{line_at(bare, it.start())}: the link {it[1]} leads nowhere")
-    return found
+            dead.append(f"{name}:{line_at(bare, it.start())}: the link {it[1]} leads nowhere")
+    return dead
 
 
 def is_path(name, path):
@@ -78,6 +78,6 @@ def dead_names(name: str, text: str, crates: set[str]) -> list[str]:
     """The paths and the crates that a page names and that aren't there."""
     text = re.sub(r"\]\([^)\s]*\)", "]", text)
     paths = [(it.start(), it[0]) for it in PATH.finditer(text) if not MADE.search(it[0])]
-    found = [(at, it, "path") for at, it in paths if not is_path(name, it)]
-    found += [(at, it, "crate") for at, it in crates_named(text) if it not in crates]
-    return [f"{name}:{line_at(text, at)}: there is no {kind} {it}" for at, it, kind in sorted(set(found))]
+    dead = [(at, it, "path") for at, it in paths if not is_path(name, it)]
+    dead += [(at, it, "crate") for at, it in crates_named(text) if it not in crates]
+    return [f"{name}:{line_at(text, at)}: there is no {kind} {it}" for at, it, kind in sorted(set(dead))]

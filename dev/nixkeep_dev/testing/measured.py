@@ -24,8 +24,8 @@ def begin(place: str, folder: str) -> None:
     lines.set_option("run:disable_warnings", NO_FAULTS)
 
     def send():
-        found = lines.get_data()
-        said = json.dumps({file: found.lines(file) for file in found.measured_files()}).encode()
+        data = lines.get_data()
+        said = json.dumps({file: data.lines(file) for file in data.measured_files()}).encode()
         with contextlib.suppress(OSError), socket.socket(socket.AF_UNIX) as listening:
             listening.connect(place)
             listening.sendall(said)

@@ -25,8 +25,8 @@ def listing(tree: dict, path: str = ".") -> list[str]:
     """The lines of `nixkeep ls` for a tree as the JSON of Nix describes it."""
     kind = tree["type"]
     if kind == "directory":
-        found = sorted((os.fsencode(name), it) for name, it in tree["entries"].items())
-        return [f"d {path}", *(it for name, of in found for it in listing(of, f"{path}/{archives.shown(name)}"))]
+        entries = sorted((os.fsencode(name), it) for name, it in tree["entries"].items())
+        return [f"d {path}", *(it for name, of in entries for it in listing(of, f"{path}/{archives.shown(name)}"))]
     if kind == "symlink":
         return [f"l {path} -> {archives.shown(os.fsencode(tree['target']))}"]
     return [f"{'x' if tree.get('executable') else 'r'} {tree['size']} {path}"]

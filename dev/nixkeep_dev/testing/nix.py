@@ -74,11 +74,11 @@ class Nix:
 
     def objects(self) -> dict[str, tuple]:
         """Each valid path with its archive's hash in hexadecimal, its size, deriver and references."""
-        left, found = iter(self.lines("nix-store", "--dump-db")), {}
+        left, objects = iter(self.lines("nix-store", "--dump-db")), {}
         for path in left:
             digest, size, deriver, count = (next(left) for _ in range(4))
-            found[path] = digest, int(size), deriver, [next(left) for _ in range(int(count))]
-        return found
+            objects[path] = digest, int(size), deriver, [next(left) for _ in range(int(count))]
+        return objects
 
     @functools.cache
     def archive(self, path: str) -> bytes:

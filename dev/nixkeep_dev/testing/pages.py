@@ -7,10 +7,10 @@ SHELLS = ("sh", "bash", "zsh", "shell", "console")
 
 def command_blocks(page: str) -> dict[str, list]:
     """The blocks of commands by section: for each heading the kind (empty, or one of SHELLS) and the text of each."""
-    found, section = {}, ""
+    blocks, section = {}, ""
     for heading, kind, text in re.findall(r"^#+ +(.*?) *$|^```(\w*)\n(.*?)^```$", page, re.M | re.S):
         if heading:
             section = heading
         elif kind in SHELLS or not kind and text.startswith("$ "):
-            found.setdefault(section, []).append((kind, text))
-    return found
+            blocks.setdefault(section, []).append((kind, text))
+    return blocks

@@ -100,9 +100,9 @@ def of_program(given: dict, is_whole: bool = False) -> list[Part]:
     no machine is booted for the units."""
     bounded, more = (BOUNDED, MORE) if is_whole else ({**BOUNDED, **SHORT}, {})
     by_kind = {"faults": "", "compare": "", "tools": "test_"}
-    found = [f"{folder}/{script}" for folder, start in by_kind.items() for script in scripts(folder, start)]
-    found = [*LONGEST, *[it for it in found if it not in LONGEST]]
-    return [Part(it, given, [*bounded.get(it, []), *more.get(it, [])]) for it in found]
+    files = [f"{folder}/{script}" for folder, start in by_kind.items() for script in scripts(folder, start)]
+    files = [*LONGEST, *[it for it in files if it not in LONGEST]]
+    return [Part(it, given, [*bounded.get(it, []), *more.get(it, [])]) for it in files]
 
 
 def of_gate(given: dict) -> list[Part]:

@@ -9,13 +9,13 @@ from typing import IO
 
 def processes() -> dict[int, tuple]:
     """The parent, the start and the processor ticks, those of its ended children too, of each process."""
-    found = {}
+    running = {}
     for name in os.listdir("/proc"):
         if name.isdigit():
             with contextlib.suppress(OSError):
                 fields = Path(f"/proc/{name}/stat").read_text().rpartition(")")[2].split()
-                found[int(name)] = int(fields[1]), fields[19], sum(map(int, fields[11:15]))
-    return found
+                running[int(name)] = int(fields[1]), fields[19], sum(map(int, fields[11:15]))
+    return running
 
 
 def children(now: dict) -> dict[int, list]:
@@ -33,13 +33,13 @@ def memory(pid: int, key: str = "VmHWM") -> int:
 
 def writing_to(pipe: IO) -> list[int]:
     """The processes that have the other end of a pipe open: one that is left alone by what started it may, too."""
-    wanted, found = os.fstat(pipe.fileno()), []
+    wanted, pids = os.fstat(pipe.fileno()), []
     for file in Path("/proc").glob("[0-9]*/fd/*"):
         with contextlib.suppress(OSError):
             # (samestat: the pipe is known by its number, and has no name)
             if os.path.samestat(file.stat(), wanted):
-                found.append(int(file.parts[2]))
-    return [it for it in found if it != os.getpid()]
+                pids.append(int(file.parts[2]))
+    return [it for it in pids if it != os.getpid()]
 
 
 def end(top: int, pipe: IO | None = None) -> None:

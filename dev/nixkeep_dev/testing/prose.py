@@ -116,11 +116,11 @@ def sentences(text: str) -> list[list[str]]:
     text = re.sub(r"\[([^\]\n]*)\]\([^)]*\)", r"\1", without_code(text))
     text = re.sub(r"^ *(?:\||#).*$", "", text, flags=re.M)
     text = re.sub(r"^ *(?:[-*+]|\d+\.) ", "\n\n", text, flags=re.M).replace("**", "")
-    found = []
+    split = []
     for part in re.split(r"\n\s*\n", text):
         ended = re.split(r"(?<=[.!?])[\"')]*\s+(?=[\"'(]?[A-Z`0-9])", " ".join(part.split()))
-        found += [it.split() for it in ended]
-    return [it for it in found if len(it) > 1]
+        split += [it.split() for it in ended]
+    return [it for it in split if len(it) > 1]
 
 
 def average(text: str) -> float:

@@ -70,7 +70,7 @@ LISTS = [("", requests), ("keep-outputs = true\nkeep-derivations = true\n", kept
 
 def named() -> list:
     """Each request of LISTS, in order: its name, the settings and the request."""
-    return [(" ".join(it[:3]), settings, it) for settings, asked in LISTS for it in asked()]
+    return [(" ".join(it[:3]), settings, it) for settings, requests in LISTS for it in requests()]
 
 
 def some_store(schema: int) -> Built:

@@ -37,19 +37,19 @@ class Fault:
 
 def table() -> list[Fault]:
     """The faults of the table, in its order."""
-    found, name = {}, None
+    rows, name = {}, None
     for line in Path(TABLE).read_text().splitlines():
         if line.startswith("  "):
             key, colon, text = line[2:].partition(":")
             if not colon or key not in KEYS or name is None:
                 report.fail(f"{TABLE}: {line!r} is none of {', '.join(KEYS)}")
-            found[name].append((key, text[1:]))
+            rows[name].append((key, text[1:]))
         elif line and not line.startswith("#"):
             name = line
-            if name in found:
+            if name in rows:
                 report.fail(f"{TABLE}: {name}: two faults of one name")
-            found[name] = []
-    return [Fault(*item) for item in found.items()]
+            rows[name] = []
+    return [Fault(*item) for item in rows.items()]
 
 
 def parts_of_table() -> set[tuple]:
@@ -79,13 +79,13 @@ def by_days():
     first."""
     known, every = costs(), table()
     cost = lambda it: known.get(tuple(it.part), UNKNOWN)
-    taken, found = [0] * days.DAYS, [[] for _ in range(days.DAYS)]
+    taken, shares = [0] * days.DAYS, [[] for _ in range(days.DAYS)]
     for fault in sorted(every, key=lambda it: (-cost(it), it.part)):
-        more = [cost(fault) * (1 if any(it.part == fault.part for it in on) else 2) for on in found]
+        more = [cost(fault) * (1 if any(it.part == fault.part for it in on) else 2) for on in shares]
         at = min(range(days.DAYS), key=lambda it: taken[it] + more[it])
         taken[at] += more[at]
-        found[at].append(fault)
-    return [[it for it in every if it in on] for on in found]
+        shares[at].append(fault)
+    return [[it for it in every if it in on] for on in shares]
 
 
 def of_day(day: int) -> list[Fault]:
@@ -170,16 +170,16 @@ def change_files(fault: Fault, top: str) -> None:
 
 def gone_of(fault: Fault, top: str) -> list[str]:
     """What a fault changes and isn't in the repository: a file, or a text that isn't there once."""
-    found, file = [], None
+    gone, file = [], None
     for key, text in fault.changes:
         path = text.split()[-1] if key in ("gone", "mode", "first") else text
         if key in ("file", "gone", "mode", "first") and not Path(f"{top}/{path}").exists():
-            found.append(f"there is no {path}")
+            gone.append(f"there is no {path}")
         file = text if key == "file" else file
         if key == "old" and Path(top, file).exists():
             seen = Path(top, file).read_bytes().count(text.encode())
-            found += [f"{file} has {text!r} {seen} times"] if seen != 1 else []
-    return found
+            gone += [f"{file} has {text!r} {seen} times"] if seen != 1 else []
+    return gone
 
 
 def keep_first(count, path, top):

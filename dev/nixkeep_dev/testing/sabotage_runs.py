@@ -96,10 +96,10 @@ def begun(pool: Executor, faults: Sequence[sabotage.Fault], copies: sabotage.Cop
     """By the name of each fault its run, and the one of its part without a fault. Since a fault's run waits for that,
     those of a part come after the one of the next part without a fault."""
     parts = [*dict.fromkeys(tuple(fault.part) for fault in faults)]
-    plain, found = {}, {}
+    plain, running = {}, {}
     for part, before in zip([*parts, None], [None, *parts]):
         if part:
             plain[part] = pool.submit(without_fault, copies, part, program, bound)
         for fault in [fault for fault in faults if tuple(fault.part) == before]:
-            found[fault.name] = pool.submit(with_fault, copies, fault, program, bound, plain[before]), plain[before]
-    return found
+            running[fault.name] = pool.submit(with_fault, copies, fault, program, bound, plain[before]), plain[before]
+    return running

@@ -12,18 +12,18 @@ NAME = "tests/gate/skips.txt"
 
 def allowed(text: str | None = None) -> list[tuple]:
     """The skips that are allowed, as pairs of a part and a pattern. Each has a reason: the indented lines after it."""
-    found, is_explained = [], True
+    rows, is_explained = [], True
     for line in (Path(f"{program.HERE}/{NAME}").read_text() if text is None else text).splitlines():
         if line.startswith("  "):
             is_explained = True
         elif line and not line.startswith("#"):
             if not is_explained:
-                raise ValueError(f"{NAME}: {': '.join(found[-1])}: no reason")
+                raise ValueError(f"{NAME}: {': '.join(rows[-1])}: no reason")
             part, _, what = line.partition(": ")
-            found, is_explained = [*found, (part, what)], False
+            rows, is_explained = [*rows, (part, what)], False
     if not is_explained:
-        raise ValueError(f"{NAME}: {': '.join(found[-1])}: no reason")
-    return found
+        raise ValueError(f"{NAME}: {': '.join(rows[-1])}: no reason")
+    return rows
 
 
 def is_like(pattern, text):
@@ -34,10 +34,10 @@ def is_like(pattern, text):
 def faults(ran: Any, named: Iterable[tuple]) -> list[str]:
     """What a run skipped that isn't among these, a line each, and what it didn't do although nothing is said of it."""
     said = ran.skips()
-    found = [f"{ran.name}: skipped: {it}" for it in said
+    wrong = [f"{ran.name}: skipped: {it}" for it in said
              if not any(fnmatch.fnmatchcase(ran.name, part) and is_like(what, it) for part, what in named)]
     if ran.skipped and not said:
-        found.append(f"{ran.name}: {ran.skipped} skipped, and no line says what")
+        wrong.append(f"{ran.name}: {ran.skipped} skipped, and no line says what")
     if not (ran.passed or ran.failed or ran.skipped):
-        found.append(f"{ran.name}: it ended well and tried nothing")
-    return found
+        wrong.append(f"{ran.name}: it ended well and tried nothing")
+    return wrong

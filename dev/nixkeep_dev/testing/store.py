@@ -68,9 +68,9 @@ def killed(file: str, path: str, requests: list[tuple], *options: str) -> list[t
     with subprocess.Popen(words, stdin=subprocess.PIPE, stdout=subprocess.PIPE) as ran:
         ran.stdin.write(messages(requests))
         ran.stdin.flush()
-        found = next_replies(ran.stdout, len(requests))
+        answered = next_replies(ran.stdout, len(requests))
         ran.kill()
-    return found
+    return answered
 
 
 def small_files() -> None:

@@ -70,9 +70,9 @@ def put(path: str, rows: dict, first: str = "", last: str = "") -> None:
         with opened(path) as conn:
             conn.executescript(first)
             conn.execute("BEGIN")
-            for table, found in rows.items():
+            for table, of_table in rows.items():
                 marks = ", ".join("?" * len(tables.columns_of(table)))
-                conn.executemany(f"INSERT INTO {table} VALUES ({marks})", sorted(found, key=repr))
+                conn.executemany(f"INSERT INTO {table} VALUES ({marks})", sorted(of_table, key=repr))
             conn.execute("COMMIT")
             conn.executescript(last)
     except sqlite3.Error as error:

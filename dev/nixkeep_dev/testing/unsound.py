@@ -269,4 +269,4 @@ REFUSED = [
 
 def schemas() -> list[tuple]:
     """Each such text, and what comes of it."""
-    return [(it, word) for word, found in (("made", MADE), ("opened", OPENED), ("refused", REFUSED)) for it in found]
+    return [(it, word) for word, texts in (("made", MADE), ("opened", OPENED), ("refused", REFUSED)) for it in texts]
