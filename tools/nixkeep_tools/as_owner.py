@@ -62,6 +62,6 @@ def by_child(confine: Callable[[], None], look: Callable[[], dict]) -> dict | No
         os.kill(child, signal.SIGKILL)
         os.waitpid(child, 0)
     with contextlib.suppress(ValueError):
-        found = json.loads(text)
-        return found if isinstance(found, dict) else None
+        value = json.loads(text)
+        return value if isinstance(value, dict) else None
     return None

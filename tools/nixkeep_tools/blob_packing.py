@@ -261,7 +261,7 @@ class Feed:
         self.freed.set()
 
     def read(self, count: int) -> bytes:
-        found, size = [self.left], len(self.left)
+        pieces, size = [self.left], len(self.left)
         while size < count:
             piece = self.pieces.get()
             if not piece or isinstance(piece, BaseException):
@@ -270,10 +270,10 @@ class Feed:
                 if piece:
                     raise piece
                 break
-            found.append(piece)
+            pieces.append(piece)
             size += len(piece)
         if taken := size - len(self.left):
             self.loop.call_soon_threadsafe(self.taken, taken)
-        data = b"".join(found)
+        data = b"".join(pieces)
         self.left = data[count:]
         return data[:count]

@@ -117,9 +117,9 @@ def part(given, name, pointer, start, end):
         data = given.read(PIECE)
         if not data:
             raise Damaged(f"blob-damaged {pointer.path}: {name} in the blobs ends too early")
-        found = data[max(0, start - at) : end - at]
+        cut = data[max(0, start - at) : end - at]
         at += len(data)
-        yield found
+        yield cut
 
 
 def as_xz(given: Iterable[bytes]) -> Iterator[bytes]:

@@ -27,16 +27,16 @@ class Answer(botocore.awsrequest.AWSResponse):
     @property
     def content(self) -> bytes:
         if self._content is None:
-            found = bytearray()
+            content = bytearray()
             try:
                 for piece in self.raw.stream():
-                    found += piece
-                    if len(found) > LONGEST:
+                    content += piece
+                    if len(content) > LONGEST:
                         self.raw.close()
                         raise botocore.exceptions.HTTPClientError(error=f"it has more than {LONGEST} bytes")
             except urllib3.exceptions.HTTPError as error:
                 raise botocore.exceptions.HTTPClientError(error=error) from error
-            self._content = bytes(found)
+            self._content = bytes(content)
         return self._content
 
 
@@ -118,11 +118,11 @@ class Bucket:
     def open(self, name: str, at: int = 0) -> Opened:
         more = {"Range": f"bytes={at}-"} if at else {}
         with answered(self.where):
-            found = self.client.get_object(**self.key(name), **more)
-        if at and not found.get("ContentRange", "").startswith(f"bytes {at}-"):
-            found["Body"].close()
+            reply = self.client.get_object(**self.key(name), **more)
+        if at and not reply.get("ContentRange", "").startswith(f"bytes {at}-"):
+            reply["Body"].close()
             raise blobs.Failed(f"{self.where}: it has sent another part than from byte {at} on")
-        return Opened(self.where, found["Body"])
+        return Opened(self.where, reply["Body"])
 
     def list(self) -> Iterator[blobs.Blob]:
         count = 0

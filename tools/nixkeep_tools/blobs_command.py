@@ -98,10 +98,10 @@ def verify(said):
 
 def names_of(server):
     """The paths and figures of pointers by the names of their blobs."""
-    found = {}
+    by_name = {}
     for path, figures in listed(server):
-        found.setdefault(paths.base32(figures[0]), []).append((path, figures))
-    return found
+        by_name.setdefault(paths.base32(figures[0]), []).append((path, figures))
+    return by_name
 
 
 def main(words: list[str]) -> NoReturn:

@@ -95,8 +95,8 @@ class Folder:
         for entry in sorted(os.scandir(folder), key=lambda it: it.name):
             if name := blobs.named(f"{folder.name}/{entry.name}"):
                 with contextlib.suppress(FileNotFoundError):
-                    found = entry.stat(follow_symlinks=False)
-                    yield blobs.Blob(name, found.st_size, found.st_mtime)
+                    status = entry.stat(follow_symlinks=False)
+                    yield blobs.Blob(name, status.st_size, status.st_mtime)
 
     def delete(self, name: str) -> None:
         with contextlib.suppress(FileNotFoundError):

@@ -203,13 +203,13 @@ def transfer(words, transferred):
 def main(words: list[str]) -> int:
     streams.keep_closed()
     top, transferred = parser(), []
-    asked = top.parse_args(words[1:])
-    if asked.session is not None and not 1 <= asked.session <= 4_194_304:
+    given = top.parse_args(words[1:])
+    if given.session is not None and not 1 <= given.session <= 4_194_304:
         top.error("--session wants a number of 1 to 4,194,304")
-    if len(asked.paths) > 1 and any(getattr(asked, it, None) for it in ("root", "permanent", "profile")):
+    if len(given.paths) > 1 and any(getattr(given, it, None) for it in ("root", "permanent", "profile")):
         top.error("a root or a profile is set on one PATH")
     try:
-        transfer(asked, transferred)
+        transfer(given, transferred)
         return 0
     except Stop as stop:
         streams.say(stop.line)

@@ -47,13 +47,13 @@ def references_first(records: dict[str, objects.Record]) -> list[str]:
 
 def reached(records: dict[str, objects.Record], base: str) -> set[str]:
     """The closure of a path, as a set."""
-    found, left = set(), [base]
+    seen, left = set(), [base]
     while left:
         at = left.pop()
-        if at not in found:
-            found.add(at)
+        if at not in seen:
+            seen.add(at)
             left += records[at].refs
-    return found
+    return seen
 
 
 def is_large(record: objects.Record) -> bool:

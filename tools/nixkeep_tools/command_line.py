@@ -175,30 +175,30 @@ class Reader:
     def long(self, word: str) -> None:
         """Reads `--NAME`, `--NAME=VALUE`, or the first word of `--NAME VALUE`."""
         name, has_value, value = word[2:].partition("=")
-        found, is_request = self.command.options.get(name), name in self.command.requests
-        if not found and not is_request:
+        option, is_request = self.command.options.get(name), name in self.command.requests
+        if not option and not is_request:
             raise self.unknown(f"--{name}", self.used())
         if self.waiting:
             raise self.lacks()
-        if has_value and (is_request or found.kind == "flag"):
+        if has_value and (is_request or option.kind == "flag"):
             line = usage(self.command, self.title, {*self.values, name})
             raise fault(f"unexpected value '{value}' for '--{name}' found; no more were expected", line)
         if is_request:
             raise answer(self.command, self.title, name)
-        if found.kind == "flag":
-            self.put(found, True)
+        if option.kind == "flag":
+            self.put(option, True)
         elif has_value:
-            self.put(found, value)
+            self.put(option, value)
         else:
-            self.waiting = found
+            self.waiting = option
 
     def short(self, word):
-        asked = [it for it in self.command.requests if word.startswith(SHORT[it])]
-        if not asked:
+        requests = [it for it in self.command.requests if word.startswith(SHORT[it])]
+        if not requests:
             raise self.unknown(word[:2], None)
         if self.waiting:
             raise self.lacks()
-        raise answer(self.command, self.title, asked[0])
+        raise answer(self.command, self.title, requests[0])
 
     def value(self, word: str) -> bool:
         """Reads a word without a hyphen, and returns whether it is the subcommand."""

@@ -60,10 +60,10 @@ def of_netrc(host):
     path = os.path.expanduser(NETRC)
     try:
         # netrc itself refuses a file that others may read, if it isn't told the file's name.
-        found = netrc.netrc().authenticators(host)
+        login = netrc.netrc().authenticators(host)
     except (OSError, UnicodeError, netrc.NetrcParseError) as error:
         raise Stop(f"failed: credentials: {path}: {reason(error)}") from None
-    return basic(found[0], found[2], path) if found and found[0] and found[2] else None
+    return basic(login[0], login[2], path) if login and login[0] and login[2] else None
 
 
 def login_name():

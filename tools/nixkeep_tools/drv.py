@@ -20,12 +20,12 @@ class _Text:
 
     def string(self):
         self.word(b'"')
-        found, quote = bytearray(), -1
+        content, quote = bytearray(), -1
         while not self.is_next(b'"'):
             if self.is_next(b"\\"):
                 escape = self.text[self.at:self.at + 2]
                 self.word(escape if escape in _ESCAPES else b"no escape")
-                found += _ESCAPES[escape]
+                content += _ESCAPES[escape]
             else:
                 # (nothing is looked for beyond the next quote, nor that twice: a text may have millions of strings)
                 quote = quote if quote >= self.at else self.text.find(b'"', self.at)
@@ -33,32 +33,32 @@ class _Text:
                     raise paths.Malformed(17, "bad-derivation")
                 escape = self.text.find(b"\\", self.at, quote)
                 end = quote if escape < 0 else escape
-                found += self.text[self.at:end]
+                content += self.text[self.at:end]
                 self.at = end
         self.word(b'"')
-        return bytes(found)
+        return bytes(content)
 
     def items(self, item):
         """A list of items."""
         self.word(b"[")
-        found = []
+        items = []
         while not self.is_next(b"]"):
-            if found:
+            if items:
                 self.word(b",")
-            found.append(item())
+            items.append(item())
         self.word(b"]")
-        return found
+        return items
 
     def parts(self, *parts):
         """A tuple of these parts."""
         self.word(b"(")
-        found = []
+        values = []
         for at, part in enumerate(parts):
             if at:
                 self.word(b",")
-            found.append(part())
+            values.append(part())
         self.word(b")")
-        return found
+        return values
 
 
 def _output(name, path, store):
@@ -84,7 +84,7 @@ def outputs(text: bytes, store: str = paths.STORE) -> list[tuple] | None:
     string = given.string
     strings = lambda: given.items(string)
     given.word(b"Derive(")
-    found = given.items(lambda: given.parts(string, string, string, string))
+    listed = given.items(lambda: given.parts(string, string, string, string))
     rest = [lambda: given.items(lambda: given.parts(string, strings)), strings, string, string, strings]
     for part in [*rest, lambda: given.items(lambda: given.parts(string, string))]:
         given.word(b",")
@@ -92,7 +92,7 @@ def outputs(text: bytes, store: str = paths.STORE) -> list[tuple] | None:
     given.word(b")")
     if given.at != len(text):
         raise paths.Malformed(17, "bad-derivation")
-    named = [_output(name, path, store) for name, path, _, _ in found]
+    named = [_output(name, path, store) for name, path, _, _ in listed]
     if len({name for name, _ in named}) != len(named):
         raise paths.Malformed(18, "double-output")
     return [(name, path) for name, path in named if path]

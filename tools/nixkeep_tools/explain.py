@@ -110,15 +110,15 @@ def print_usage(file, conn, examined, config):
 
 
 def parser() -> argparse.ArgumentParser:
-    asked = argparse.ArgumentParser(prog="nixkeep-explain", description=__doc__, epilog=HELP, allow_abbrev=False,
-                                    formatter_class=argparse.RawDescriptionHelpFormatter)
-    version.add_to(asked)
-    asked.add_argument("--config", metavar="FILE", help="the configuration that nixkeep is called with")
-    asked.add_argument("--log", action="store_true", help="print a line if some of the log doesn't count, and no more")
-    asked.add_argument("--usage", action="store_true", help="print who keeps how much, and what generations would free")
-    asked.add_argument("--rescue", metavar="FOLDER", help="write all sound objects and their roots to a new folder")
-    asked.add_argument("file", metavar="FILE", help="the store: the file that nixkeep --db names")
-    return asked
+    top = argparse.ArgumentParser(prog="nixkeep-explain", description=__doc__, epilog=HELP, allow_abbrev=False,
+                                  formatter_class=argparse.RawDescriptionHelpFormatter)
+    version.add_to(top)
+    top.add_argument("--config", metavar="FILE", help="the configuration that nixkeep is called with")
+    top.add_argument("--log", action="store_true", help="print a line if some of the log doesn't count, and no more")
+    top.add_argument("--usage", action="store_true", help="print who keeps how much, and what generations would free")
+    top.add_argument("--rescue", metavar="FOLDER", help="write all sound objects and their roots to a new folder")
+    top.add_argument("file", metavar="FILE", help="the store: the file that nixkeep --db names")
+    return top
 
 
 def explain_tables(words, config):

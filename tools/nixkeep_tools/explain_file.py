@@ -43,12 +43,12 @@ def of_file(path, what):
     """Why nixkeep, as this user, can't have the file for itself."""
     if not os.access(path, os.R_OK):
         return [Reason(f"{what} may not be read by this user: {owned(path)}", False)]
-    found = []
+    reasons = []
     if not os.access(path, os.W_OK):
-        found.append(Reason(f"{what} may not be written by this user: {owned(path)}", True))
+        reasons.append(Reason(f"{what} may not be written by this user: {owned(path)}", True))
     if os.stat(path).st_nlink > 1:
-        found.append(Reason(f"{what} has {os.stat(path).st_nlink} names (hard links), and may have one", True))
-    return [*found, *of_locks(path, what)]
+        reasons.append(Reason(f"{what} has {os.stat(path).st_nlink} names (hard links), and may have one", True))
+    return [*reasons, *of_locks(path, what)]
 
 
 def owned(path):
@@ -132,26 +132,26 @@ def is_running(pid):
 
 def locking(path):
     """The processes that the system lists with a lock on the file."""
-    seen, found = os.stat(path), set()
+    seen, pids = os.stat(path), set()
     name = f"{os.major(seen.st_dev):02x}:{os.minor(seen.st_dev):02x}:{seen.st_ino}"
     with contextlib.suppress(OSError), open("/proc/locks") as file:
         for line in file:
             words = line.split()
             if name in words and words[4].isdigit():
-                found.add(int(words[4]))
-    return found - {os.getpid()}
+                pids.add(int(words[4]))
+    return pids - {os.getpid()}
 
 
 def having_open(path):
     """The processes that have the file open: a lock of an open file belongs to no process by itself."""
-    seen, found = os.stat(path), set()
+    seen, pids = os.stat(path), set()
     for pid in (int(it) for it in os.listdir("/proc") if it.isdigit()):
         with contextlib.suppress(OSError):
             for name in os.listdir(f"/proc/{pid}/fd"):
                 with contextlib.suppress(OSError):
                     if os.path.samestat(seen, os.stat(f"/proc/{pid}/fd/{name}")):
-                        found.add(pid)
-    return found - {os.getpid()}
+                        pids.add(pid)
+    return pids - {os.getpid()}
 
 
 def described(pid):

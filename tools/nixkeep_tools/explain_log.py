@@ -68,11 +68,11 @@ def line(path: str) -> tuple[str | None, bool]:
     if has_bad_head(path):
         size = Path(store_file.log_of(path)).stat().st_size
         return f"its log: none of its {size} bytes count: its head is damaged", True
-    found = ignored(path)
-    if not found.frames:
+    rest = ignored(path)
+    if not rest.frames:
         return None, False
-    why = ["a change was stopped there", "a change was stopped there, or the log is damaged"][found.commits > 0]
-    if found.commits > 1:
+    why = ["a change was stopped there", "a change was stopped there, or the log is damaged"][rest.commits > 0]
+    if rest.commits > 1:
         why = "the log is damaged"
-    frames_are = "1 frame at its end doesn't" if found.frames == 1 else f"{found.frames} frames at its end don't"
-    return f"its log: {frames_are} count, with {count_of(found.commits, 'commit')}: {why}", found.commits > 0
+    frames_are = "1 frame at its end doesn't" if rest.frames == 1 else f"{rest.frames} frames at its end don't"
+    return f"its log: {frames_are} count, with {count_of(rest.commits, 'commit')}: {why}", rest.commits > 0

@@ -144,9 +144,9 @@ def check_faults(conn, entries):
 def broken_checks(conn, entry, alone):
     """The Faults of one table, whose rows are put one by one into a table of the same text in another database."""
     alone.execute(entry.text)
-    found = alone.execute("SELECT name, hidden FROM pragma_table_xinfo(?)", (entry.name,)).fetchall()
-    names, marks = ", ".join(quoted(it) for it, _ in found), ", ".join("?" * len(found))
-    if any(hidden for _, hidden in found):
+    columns = alone.execute("SELECT name, hidden FROM pragma_table_xinfo(?)", (entry.name,)).fetchall()
+    names, marks = ", ".join(quoted(it) for it, _ in columns), ", ".join("?" * len(columns))
+    if any(hidden for _, hidden in columns):
         return
     for row in conn.execute(f"SELECT {names} FROM {quoted(entry.name)}"):
         try:
@@ -159,8 +159,8 @@ def broken_checks(conn, entry, alone):
 
 def frozen(conn, entries):
     """The tables that nixkeep can't write, since they have a trigger or an index with a WHERE or an expression."""
-    found = {lower(it.table) for it in entries if it.type == "trigger"}
-    return found | {lower(it.name) for it in entries if it.type == "table" and has_hidden_index(conn, it.name)}
+    tables = {lower(it.table) for it in entries if it.type == "trigger"}
+    return tables | {lower(it.name) for it in entries if it.type == "table" and has_hidden_index(conn, it.name)}
 
 
 def faults_of_others(conn, entries):

@@ -45,24 +45,24 @@ fi
 
 def bad_objects(objects, faults, partial):
     """Why an object isn't sound by itself, by path."""
-    found = {}
+    rules = {}
     for it in faults:
         if it.table in ("object", "piece", "refs") and it.row and it.row[0] in objects.objects:
             # (if the content address is right, the archive is the object's, and the digest alone is wrong)
             if it.rule != HASH or not objects.is_proved(it.row[0]):
-                found.setdefault(it.row[0], it.rule)
+                rules.setdefault(it.row[0], it.rule)
     for base in objects.objects.keys() - objects.checked.keys():
-        found.setdefault(base, "its archive can't be read")
+        rules.setdefault(base, "its archive can't be read")
     for base in objects.checked if "refs" in partial else ():
         if not objects.is_proved(base):
-            found.setdefault(base, "not all references can be read, and no content address proves those that can")
-    return found
+            rules.setdefault(base, "not all references can be read, and no content address proves those that can")
+    return rules
 
 
 def in_order(objects, bad):
     """The sound objects, each after those that it refers to, and why others are left out, by path."""
     left_out, waiting = dict(bad), {}
-    referrers, ready, found = collections.defaultdict(list), [], []
+    referrers, ready, ordered = collections.defaultdict(list), [], []
     for base in objects.checked.keys() - bad.keys():
         waiting[base] = {it for it in objects.references[base] if it != base}
         for it in waiting[base]:
@@ -72,14 +72,14 @@ def in_order(objects, bad):
     heapq.heapify(ready)
     while ready:
         base = heapq.heappop(ready)
-        found.append(base)
+        ordered.append(base)
         for it in referrers[base]:
             waiting[it].discard(base)
             if not waiting[it]:
                 heapq.heappush(ready, it)
-    for base in sorted(waiting.keys() - set(found)):
+    for base in sorted(waiting.keys() - set(ordered)):
         left_out[base] = f"it refers to {min(waiting[base])}, which is left out or refers back"
-    return found, left_out
+    return ordered, left_out
 
 
 # ---- objects
@@ -138,8 +138,8 @@ def root_commands(rows, store):
     for owner, name, number, target in rows["generation"]:
         generations[owner, name].append((number, target))
     current = {row[:2]: row[2] for row in rows["profile"]}
-    for (owner, name), found in generations.items():
-        yield from profile_commands(owner, name, found, current[owner, name], store)
+    for (owner, name), links in generations.items():
+        yield from profile_commands(owner, name, links, current[owner, name], store)
     for owner, session, target in rows["temp_root"]:
         yield command(owner, "temp", "add", str(session), paths.full(target, store))
     if rows["runtime"]:
@@ -152,9 +152,9 @@ def kept_roots(rows, faults, kept):
     rules = collections.defaultdict(list)
     for it in faults:
         rules[it.table, it.row].append(it.rule)
-    found, left_out = {}, []
+    sound, left_out = {}, []
     for table in ("permanent", "user_root", "generation", "runtime", "temp_root"):
-        found[table] = []
+        sound[table] = []
         for row in rows.of(table):
             key = row[:FORMS[table][1]]
             why = [*rules[table, key], *([] if row[-1] in kept else ["its target is left out"])]
@@ -163,9 +163,9 @@ def kept_roots(rows, faults, kept):
             if why:
                 left_out.append((shown(table, key), why[0]))
             else:
-                found[table].append(row)
-    found["profile"] = rows.of("profile")
-    return found, left_out
+                sound[table].append(row)
+    sound["profile"] = rows.of("profile")
+    return sound, left_out
 
 
 # ---- the folder
@@ -190,6 +190,6 @@ def rescue(folder: str, file: str, examined: Examined) -> Rescued:
         out.writelines(it + "\n" for it in ["", "# The roots, each set by its owner.", *root_commands(roots, store)])
     os.chmod(f"{folder}/restore.new", 0o700)
     os.rename(f"{folder}/restore.new", f"{folder}/restore")
-    count = sum(len(found) for table, found in roots.items() if table != "profile")
+    count = sum(len(of_table) for table, of_table in roots.items() if table != "profile")
     lost = [(shown("object", (it,)), why) for it, why in sorted(left_out.items())]
     return Rescued(len(imported), count, [*lost, *left_roots])

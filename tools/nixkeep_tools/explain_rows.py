@@ -53,8 +53,8 @@ def by_key(conn, table):
     query = keys_of(conn, table)
     if not query:
         return {}, "there is no index of the key"
-    found, problem = scanned(conn, query)
-    return {row[0]: row[1:] for row in found}, problem
+    read, problem = scanned(conn, query)
+    return {row[0]: row[1:] for row in read}, problem
 
 
 def is_intact(conn, table, rows):
@@ -74,11 +74,11 @@ def read_table(conn, table):
     """The Read of a table: of its pages in both directions and, for rows that these lack, of the index of its key."""
     columns, width = ", ".join(shown_columns(table)), FORMS[table][1]
     text = f"SELECT rowid, {columns} FROM {table} NOT INDEXED"
-    found, problem = scanned(conn, text + " ORDER BY rowid")
-    if not problem and is_intact(conn, table, rows := {row[0]: row[1:] for row in found}):
+    ordered, problem = scanned(conn, text + " ORDER BY rowid")
+    if not problem and is_intact(conn, table, rows := {row[0]: row[1:] for row in ordered}):
         return Read(rows, True, [])
     more = scanned(conn, text + " ORDER BY rowid DESC")[0] if problem else []
-    rows = {row[0]: row[1:] for row in (*more, *found)}
+    rows = {row[0]: row[1:] for row in (*more, *ordered)}
     keys, key_problem = by_key(conn, table)
     in_table = {(rowid, *row[:width]) for rowid, row in rows.items()}
     in_index = {(rowid, *key) for rowid, key in keys.items()}
@@ -203,13 +203,13 @@ class Objects:
             yield Fault("object", row, f"nar and its pieces are no archive: {read.fault}")
         if read.digest != digest:
             yield Fault("object", row, HASH)
-        found = [*self.address_faults(base, address, read)]
-        yield from found
+        faults = [*self.address_faults(base, address, read)]
+        yield from faults
         outputs, rule = read.outputs(self.store) if base.endswith(".drv") else ([], None)
         if rule:
             yield Fault("object", row, rule)
         yield from self.output_faults(base, outputs)
-        self.checked[base] = Checked(read.size, read.digest, address is not None and not found and not read.fault)
+        self.checked[base] = Checked(read.size, read.digest, address is not None and not faults and not read.fault)
 
     def is_proved(self, base: str) -> bool:
         """Whether a content address proves the path, the references and the archive of an object."""

@@ -70,12 +70,12 @@ def form_faults(conn, entry):
 
 def column_faults(conn, table):
     columns, key = FORMS[table]
-    found = list(conn.execute("SELECT * FROM pragma_table_xinfo(?)", (table,)))
-    names, wanted = [row[1] for row in found], [it.split()[0] for it in columns]
+    rows = list(conn.execute("SELECT * FROM pragma_table_xinfo(?)", (table,)))
+    names, wanted = [row[1] for row in rows], [it.split()[0] for it in columns]
     if names != wanted:
         yield f"the columns are {', '.join(names)}, and have to be {', '.join(wanted)}"
         return
-    for at, (_, name, kind, is_required, default, place, hidden) in enumerate(found):
+    for at, (_, name, kind, is_required, default, place, hidden) in enumerate(rows):
         may_be_null = columns[at].endswith(" ?")
         if kind.upper().replace("INTEGER", "INT") != columns[at].split()[1].replace("INTEGER", "INT"):
             yield f"column {name} is {kind}, and has to be {columns[at].split()[1]}"
@@ -111,8 +111,8 @@ def index_columns(conn, name):
 
 def has_hidden_index(conn: sqlite3.Connection, table: str) -> bool:
     """Whether a table has an index with a WHERE or an expression."""
-    found = conn.execute("SELECT * FROM pragma_index_list(?)", (table,)).fetchall()
-    return any(row[4] or any(it[1] == -2 for it in index_columns(conn, row[1])) for row in found)
+    indexes = conn.execute("SELECT * FROM pragma_index_list(?)", (table,)).fetchall()
+    return any(row[4] or any(it[1] == -2 for it in index_columns(conn, row[1])) for row in indexes)
 
 
 def index_faults(conn, table):

@@ -54,8 +54,8 @@ class Examined:
     @property
     def foreign(self) -> list[str]:
         """The tables and views of other programs."""
-        found = [it.name for it in self.entries if it.type in ("table", "view") and it.name not in self.names]
-        return [it for it in found if not it.startswith("sqlite_")]
+        others = [it.name for it in self.entries if it.type in ("table", "view") and it.name not in self.names]
+        return [it for it in others if not it.startswith("sqlite_")]
 
     def schema_faults(self, conn: sqlite3.Connection) -> Iterator[Fault]:
         if not self.names:

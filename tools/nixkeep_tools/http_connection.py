@@ -126,9 +126,9 @@ def connected(host, port):
     # (a name in bytes, as the codec of a text takes long to load)
     for family, kind, protocol, _, address in _socket.getaddrinfo(host.encode(), port, 0, _socket.SOCK_STREAM):
         try:
-            found = reached(_socket.socket(family, kind, protocol), address)
-            found.setsockopt(_socket.IPPROTO_TCP, _socket.TCP_NODELAY, 1)
-            return found
+            connection = reached(_socket.socket(family, kind, protocol), address)
+            connection.setsockopt(_socket.IPPROTO_TCP, _socket.TCP_NODELAY, 1)
+            return connection
         except OSError as error:
             fault = error
     raise fault

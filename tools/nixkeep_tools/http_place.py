@@ -20,12 +20,12 @@ class Place:
         if self.scheme == "unix" and rest.startswith("/"):
             self.socket = rest
             return
-        found = self.scheme in ("http", "https") and (_plain(rest) or _any(url))
-        if not found:
+        parts = self.scheme in ("http", "https") and (_plain(rest) or _any(url))
+        if not parts:
             # (without a password in it)
             shown = f"{self.scheme}://{rest.rpartition('@')[2]}" if "@" in rest else url
             raise Stop(f"failed: server: {shown}: http://HOST:PORT, https://HOST or unix:/PATH is meant")
-        self.host, self.port, path = found
+        self.host, self.port, path = parts
         self.prefix = path.rstrip("/")
 
     @property

@@ -63,19 +63,19 @@ class _Input:
             if self.piece is None:
                 self.piece = b""
                 return b""
-        found = self.piece[self.at:self.at + count]
-        self.at += len(found)
-        self.offset += len(found)
-        return found
+        part = self.piece[self.at:self.at + count]
+        self.at += len(part)
+        self.offset += len(part)
+        return part
 
     def chunks(self, count):
         """Exactly this many bytes, in parts."""
         while count:
-            found = self.some(min(count, CHUNK))
-            if not found:
+            chunk = self.some(min(count, CHUNK))
+            if not chunk:
                 raise self.fault("truncated")
-            count -= len(found)
-            yield found
+            count -= len(chunk)
+            yield chunk
 
     def length(self):
         """The length of the next string, which the limit allows."""
@@ -91,31 +91,31 @@ class _Input:
 
     def string(self):
         length = self.length()
-        found = b"".join(self.chunks(length))
+        text = b"".join(self.chunks(length))
         self.padding(length)
-        return found
+        return text
 
     def word(self, *words):
         """The next string, which is one of these."""
-        found = self.string()
-        if found not in words:
+        word = self.string()
+        if word not in words:
             raise self.fault("bad-tag")
-        return found
+        return word
 
     def name(self, previous):
         """The next string, which is the name of an entry after that of this name; None before the first."""
-        found = self.string()
-        if found in (b"", b".", b"..") or b"/" in found or b"\0" in found:
+        name = self.string()
+        if name in (b"", b".", b"..") or b"/" in name or b"\0" in name:
             raise self.fault("bad-name")
-        if previous is not None and found <= previous:
+        if previous is not None and name <= previous:
             raise self.fault("not-sorted")
-        return found
+        return name
 
     def contents(self, take):
         """The length of the next string, whose bytes are passed on."""
         length = self.length()
-        for found in self.chunks(length):
-            take(found)
+        for chunk in self.chunks(length):
+            take(chunk)
         self.padding(length)
         return length
 

@@ -5,7 +5,7 @@ import sys
 
 def run(program: str, module: str, package: str) -> None:
     try:
-        found = importlib.import_module(f"nixkeep_tools.{module}")
+        command = importlib.import_module(f"nixkeep_tools.{module}")
     except ModuleNotFoundError as missing:
         sys.exit(f"{program}: {missing}: install the Debian package {package}")
-    found.main()
+    command.main()

@@ -56,12 +56,12 @@ def source_address(record: Record, folder: str) -> str | None:
 
 def contents(archive: bytes) -> bytes | None:
     """The contents of an archive that is a regular file and not executable, else None."""
-    found = bytearray()
+    data = bytearray()
     try:
-        kinds = [it.kind for it in nar.walk([archive], lambda _, part: found.extend(part))]
+        kinds = [it.kind for it in nar.walk([archive], lambda _, part: data.extend(part))]
     except nar.Fault:
         return None
-    return bytes(found) if kinds == ["r"] else None
+    return bytes(data) if kinds == ["r"] else None
 
 
 def text_address(record: Record, archive: bytes, folder: str) -> str | None:
@@ -200,18 +200,18 @@ class Store:
         for base in tops:
             if not self.keep(base):
                 raise Stop(f"refused: {NOT_VALID} not-valid {self.full(base)}", REFUSED)
-        found, left, names, count = {}, list(tops), {it: it for it in tops}, 0
+        records, left, names, count = {}, list(tops), {it: it for it in tops}, 0
         while left:
             record = self.record(left.pop())
             left += {*record.refs} - names.keys()
             # (one text for all that refer to an object)
-            found[record.base] = record._replace(refs=[names.setdefault(it, it) for it in record.refs])
+            records[record.base] = record._replace(refs=[names.setdefault(it, it) for it in record.refs])
             count += len(record.refs)
             if len(names) > CLOSURE:
                 raise Stop(f"failed: answer: {self}: the closure has more than {CLOSURE} objects")
             if count > LINKS:
                 raise Stop(f"failed: answer: {self}: the closure has more than {LINKS} references")
-        return found
+        return records
 
     def valid(self, bases: Iterable[str]) -> set[str]:
         """The valid ones of these paths, as a set."""

@@ -56,15 +56,15 @@ class Overview:
         self.differs = 0 if live is None else len(live ^ {base for base, bits in self.bits.items() if bits})
 
     def sizes(self, bits: dict[str, int]) -> collections.Counter:
-        found = collections.Counter()
+        sizes = collections.Counter()
         for base, it in bits.items():
-            found[it] += self.store.objects[base].size
-        return found
+            sizes[it] += self.store.objects[base].size
+        return sizes
 
     def total(self, is_counted: Callable[[int], bool]) -> tuple[int, int]:
         """The number and the bytes of the objects whose roots are such."""
-        found = [self.store.objects[base].size for base, bits in self.bits.items() if is_counted(bits)]
-        return len(found), sum(found)
+        sizes = [self.store.objects[base].size for base, bits in self.bits.items() if is_counted(bits)]
+        return len(sizes), sum(sizes)
 
     def lines(self) -> list[Line]:
         """The roots by owner and kind, those that keep most first."""
@@ -73,28 +73,28 @@ class Overview:
         together = store_file.keepers(self.store, self.kept,
                                       lambda _, root: groups[root.owner or "", root.kind])
         used = usages(self.sizes(together), len(groups))
-        found = [Line(*key, counts[key], used[at]) for key, at in groups.items()]
-        return sorted(found, key=lambda it: (-it.usage.all, -it.usage.alone, it.owner, it.kind))
+        lines = [Line(*key, counts[key], used[at]) for key, at in groups.items()]
+        return sorted(lines, key=lambda it: (-it.usage.all, -it.usage.alone, it.owner, it.kind))
 
     def roots(self) -> list[tuple[store_file.Root, Usage]]:
         """Each root with its Usage, largest first."""
-        found = zip(self.store.roots, self.used)
-        return sorted(found, key=lambda it: (-it[1].all, -it[1].alone, it[0].label, it[0].target))
+        pairs = zip(self.store.roots, self.used)
+        return sorted(pairs, key=lambda it: (-it[1].all, -it[1].alone, it[0].label, it[0].target))
 
     def profiles(self, roots: list[tuple[store_file.Root, Usage]]) -> list[tuple]:
         """Pairs of an owner and a profile's name, each with its generations: root, Usage, and whether it is the
         current one."""
-        found = collections.defaultdict(list)
+        profiles = collections.defaultdict(list)
         for root, used in roots:
             if root.kind == "profile":
                 is_current = self.store.current.get((root.owner, root.name)) == root.number
-                found[root.owner, root.name].append((root, used, is_current))
-        return [(key, sorted(found[key], key=lambda it: -it[0].number)) for key in sorted(found)]
+                profiles[root.owner, root.name].append((root, used, is_current))
+        return [(key, sorted(profiles[key], key=lambda it: -it[0].number)) for key in sorted(profiles)]
 
     def dead(self) -> list[tuple[str, int]]:
         """The dead paths with their sizes, largest first."""
-        found = [(base, self.store.objects[base].size) for base, bits in self.bits.items() if not bits]
-        return sorted(found, key=lambda it: (-it[1], it[0]))
+        dead = [(base, self.store.objects[base].size) for base, bits in self.bits.items() if not bits]
+        return sorted(dead, key=lambda it: (-it[1], it[0]))
 
     def why(self, base: str) -> Why | None:
         """Why a path is kept, or None for a path that isn't there."""

@@ -16,21 +16,21 @@ def place(text):
 
 
 def parser():
-    asked = argparse.ArgumentParser(prog="nixkeep-overview",
-                                    description="Writes a page of who keeps how much of a store: HTML, by itself.")
-    version.add_to(asked)
-    where = asked.add_mutually_exclusive_group(required=True)
+    top = argparse.ArgumentParser(prog="nixkeep-overview",
+                                  description="Writes a page of who keeps how much of a store: HTML, by itself.")
+    version.add_to(top)
+    where = top.add_mutually_exclusive_group(required=True)
     where.add_argument("--db", metavar="FILE", help="the file of a store that no server has open")
     where.add_argument("--store", type=place, metavar="HOST:PORT", help="the server of a store")
-    asked.add_argument("--user", help="the caller, for --store")
-    asked.add_argument("--group", help="the primary group of the caller")
-    asked.add_argument("--config", metavar="FILE",
-                       help="the configuration of the store, for keep-outputs and keep-derivations")
-    asked.add_argument("--name",
-                       help="what the page calls the store [that of the configuration or of the file's folder]")
-    asked.add_argument("--why", metavar="PATH", help="write why this path is kept in place of the figures")
-    asked.add_argument("--output", metavar="FILE", help="the page [standard output]")
-    return asked
+    top.add_argument("--user", help="the caller, for --store")
+    top.add_argument("--group", help="the primary group of the caller")
+    top.add_argument("--config", metavar="FILE",
+                     help="the configuration of the store, for keep-outputs and keep-derivations")
+    top.add_argument("--name",
+                     help="what the page calls the store [that of the configuration or of the file's folder]")
+    top.add_argument("--why", metavar="PATH", help="write why this path is kept in place of the figures")
+    top.add_argument("--output", metavar="FILE", help="the page [standard output]")
+    return top
 
 
 async def of_server(where, caller, keeps):
@@ -50,10 +50,10 @@ def made(said):
 
 
 def main(words: list[str] | None = None) -> None:
-    asked = parser()
-    said = asked.parse_args(words)
+    top = parser()
+    said = top.parse_args(words)
     if said.store and not said.user:
-        asked.error("--store needs --user")
+        top.error("--store needs --user")
     try:
         overview = made(said)
         name = said.name or overview_source.name_of(said.config, said.db)

@@ -62,7 +62,7 @@ def page(day: Day, store: str, link: str, tiles: list[tuple[str, str]], notices:
     """The page. `tiles` are further pairs of a word and a value, `notices` lines of what needs somebody."""
     sums, spans = day.sums(), day.spans()
     highest = max(it["sums"]["requests"] for it in spans)
-    asked = sums["found"] + sums["missing"]
+    lookups = sums["found"] + sums["missing"]
     count = "{:,}".format
     return rendered(
         MACROS + TEMPLATE,
@@ -78,7 +78,7 @@ def page(day: Day, store: str, link: str, tiles: list[tuple[str, str]], notices:
             ("failed", count(sums["failures"])),
             ("mean time", seconds(sums["seconds"] / (sums["requests"] or 1))),
             ("slowest", seconds(sums["slowest"])),
-            ("records found", f"{100 * sums['found'] / asked:.0f} %" if asked else "-"),
+            ("records found", f"{100 * sums['found'] / lookups:.0f} %" if lookups else "-"),
             *tiles,
         ],
         notices=notices,

@@ -105,11 +105,11 @@ def page(it: overview.Overview, name: str | None = None, link: str | None = None
     """The page of an Overview. `name` is that of the store, or None; `link` is where the page is served, or None for
     one by itself; `why` a path to explain."""
     sums = [("live", it.total(bool)), ("dead", it.total(lambda bits: not bits)), ("in all", it.total(lambda _: True))]
-    found = it.why(why) if why else None
-    drawing = overview.drawing(found) if found and found.root and len(found.steps) <= overview.DRAWN else None
+    reason = it.why(why) if why else None
+    drawing = overview.drawing(reason) if reason and reason.root and len(reason.steps) <= overview.DRAWN else None
     roots = it.roots()
     share = lambda size: f"{100 * size / (sums[2][1][1] or 1):.1f}"
-    title = f"Why {found.base[33:]} is kept" if found else "Who keeps what"
+    title = f"Why {reason.base[33:]} is kept" if reason else "Who keeps what"
     return rendered(
         TEMPLATE,
         title=f"{title} in {name}" if name else title,
@@ -120,8 +120,8 @@ def page(it: overview.Overview, name: str | None = None, link: str | None = None
         kinds=KINDS,
         program="nixkeep-remote" if it.is_served else "nixkeep",
         words=WORDS,
-        why=found,
-        missing=None if found else why,
+        why=reason,
+        missing=None if reason else why,
         drawing=drawing and markupsafe.Markup(drawing),
         sums=sums,
         lines=it.lines(),

@@ -91,10 +91,10 @@ def store_name(text: str) -> str:
 
 def base_name(text: str, store: str = STORE) -> str:
     """The base name that a path text stands for: a base name, or a full path in the store directory."""
-    found = text.removeprefix(store + "/")
-    if not is_base_name(found):
+    base = text.removeprefix(store + "/")
+    if not is_base_name(base):
         raise Malformed(14, "bad-store-path")
-    return found
+    return base
 
 
 def full(base: str, store: str = STORE) -> str:

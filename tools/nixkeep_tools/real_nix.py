@@ -109,8 +109,8 @@ class Nix:
         if missing:
             raise Stop(f"failed: nix: {self.full(missing[0])} isn't valid in {self}")
         self.send(number(CLOSURE), number(0), strings([*map(self.full, tops)]))
-        found = self.strings()
-        self.send(number(PATH_INFOS), strings(found))
+        names = self.strings()
+        self.send(number(PATH_INFOS), strings(names))
         return {it.base: it for it in iter(self.record, None)}
 
     def record(self) -> Record | None:

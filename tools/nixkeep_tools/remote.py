@@ -71,7 +71,7 @@ def _lines(*pairs):
     return "".join(f"{key}: {value}\n" for key, value in pairs).encode() + b"\n"
 
 
-class Asked:
+class Call:
     """A command line, with the server and the caller that it names."""
 
     def __init__(self, line: Line, environ: Mapping[str, str]):
@@ -223,18 +223,18 @@ class Asked:
 # ---- answers
 
 
-def _sent(asked, request):
+def _sent(call, request):
     """The reply to a request. Its input is sent as it is read."""
     given = request.given
     if not given:
-        return asked.server().ask(request.method, request.target, request.head)
+        return call.server().ask(request.method, request.target, request.head)
     progress = Progress("sent", given.length)
 
     def body():
         yield request.head
         yield from progress.over(given.parts())
 
-    return asked.server().ask(request.method, request.target, body(), len(request.head) + given.length)
+    return call.server().ask(request.method, request.target, body(), len(request.head) + given.length)
 
 
 def _print(reply, is_text):
@@ -246,27 +246,27 @@ def _print(reply, is_text):
     return DONE
 
 
-def store_command(asked):
+def store_command(call):
     """Asks the server for the subcommand, and prints its reply."""
-    asked.server()
-    request = asked.request()
-    reply = _sent(asked, request)
-    if reply.refusal() == 41 and asked.line.name not in ("import", "runtime"):
+    call.server()
+    request = call.request()
+    reply = _sent(call, request)
+    if reply.refusal() == 41 and call.line.name not in ("import", "runtime"):
         # Everything else in the body is tested before it is sent.
         raise refused(14, "bad-store-path")
-    return _print(reply, asked.line.name != "cat-nar")
+    return _print(reply, call.line.name != "cat-nar")
 
 
-def who(asked):
+def who(call):
     """Prints the class of the caller, which nixkeep-cache answers. A server alone has no route for it; there the reply
     to a bad name of a permanent root shows it."""
-    reply = asked.server().ask("GET", "/who")
+    reply = call.server().ask("GET", "/who")
     text = reply.text()
     if reply.status == DONE and text in ANSWERS:
         streams.write([text.encode()])
         return DONE
     if reply.refusal() == 39:
-        reply = asked.server().ask("DELETE", f"/root/permanent/{NOT_PLAIN}")
+        reply = call.server().ask("DELETE", f"/root/permanent/{NOT_PLAIN}")
         text = reply.text()
     if text not in CLASSES:
         raise Stop(text.rstrip("\n"), reply.status)
@@ -285,11 +285,11 @@ def ls(_):
     return DONE
 
 
-def object_path(asked):
+def object_path(call):
     """Prints the path of the text or the source on standard input."""
     import hashlib
 
-    values, folder = asked.values, asked.store_dir or paths.STORE
+    values, folder = call.values, call.store_dir or paths.STORE
     try:
         name = paths.store_name(values["name"])
         refs = [paths.base_name(it, folder) for it in values["reference"]]
@@ -297,7 +297,7 @@ def object_path(asked):
         raise refused(fault.number, fault.name) from None
     if len(refs) > MOST_REFERENCES:
         raise refused(33, "too-many-references")
-    digest, is_text = hashlib.sha256(), asked.line.name == "text-path"
+    digest, is_text = hashlib.sha256(), call.line.name == "text-path"
 
     def parts():
         for part in streams.received(DECIDING_OF_TEXT if is_text else MOST_OF_ARCHIVE):
@@ -337,7 +337,7 @@ def run(words, title):
     try:
         line = subcommands.read(words, title)
         is_who = line.name == "who"
-        return OWN.get(line.name, store_command)(Asked(line, os.environ))
+        return OWN.get(line.name, store_command)(Call(line, os.environ))
     except Printed as printed:
         text = printed.text.encode("utf-8", "backslashreplace")
         streams.write([text], 1 if printed.status == DONE else 2)

@@ -88,17 +88,17 @@ def locker(file: BinaryIO) -> int | None:
 
     The number is 0 if the system doesn't say.
     """
-    asked = struct.pack("hhqqi4x", fcntl.F_WRLCK, os.SEEK_SET, *LOCKED, 0)
-    kind, _, _, _, pid = struct.unpack("hhqqi4x", fcntl.fcntl(file, fcntl.F_GETLK, asked))
+    query = struct.pack("hhqqi4x", fcntl.F_WRLCK, os.SEEK_SET, *LOCKED, 0)
+    kind, _, _, _, pid = struct.unpack("hhqqi4x", fcntl.fcntl(file, fcntl.F_GETLK, query))
     return None if kind == fcntl.F_UNLCK else max(pid, 0)
 
 
 def lock(file: int) -> bool:
     """Takes the lock by which a server has an open file for itself, until the file is closed. Returns whether it could.
     The file has to be open for writing."""
-    asked = struct.pack("hhqqi4x", fcntl.F_WRLCK, os.SEEK_SET, *LOCKED, 0)
+    record = struct.pack("hhqqi4x", fcntl.F_WRLCK, os.SEEK_SET, *LOCKED, 0)
     with contextlib.suppress(BlockingIOError):
-        fcntl.fcntl(file, fcntl.F_OFD_SETLK, asked)
+        fcntl.fcntl(file, fcntl.F_OFD_SETLK, record)
         return True
     return False
 
@@ -111,12 +111,12 @@ def log_of(path: str) -> str:
 
 def stamps(path: str) -> list[tuple[int, int, int]]:
     """A value that changes whenever the file or its log is written."""
-    found = []
+    stamps = []
     for it in (path, log_of(path)):
         with contextlib.suppress(FileNotFoundError):
             seen = os.stat(it)
-            found.append((seen.st_ino, seen.st_size, seen.st_mtime_ns))
-    return found
+            stamps.append((seen.st_ino, seen.st_size, seen.st_mtime_ns))
+    return stamps
 
 
 def _sum(data, order, first, second):
@@ -219,8 +219,8 @@ def open_store(path: str, despite_lock: bool = False) -> Iterator[sqlite3.Connec
 
 def tables_of(conn: sqlite3.Connection) -> list[str]:
     """The names of the store's tables that exist."""
-    found = {name for name, in conn.execute("SELECT name FROM sqlite_schema WHERE type = 'table'")}
-    return [it for it in FORMS if it in found]
+    names = {name for name, in conn.execute("SELECT name FROM sqlite_schema WHERE type = 'table'")}
+    return [it for it in FORMS if it in names]
 
 
 def version(path: str) -> str | None:
@@ -248,10 +248,10 @@ def archive(conn: sqlite3.Connection, base: str) -> Iterator[bytes]:
 
 def _lists(rows):
     """Lists of rows by their first column, which is left out of the rows."""
-    found = collections.defaultdict(list)
+    by_base = collections.defaultdict(list)
     for base, *rest in rows:
-        found[base].append(rest)
-    return found
+        by_base[base].append(rest)
+    return by_base
 
 
 def read_objects(conn: sqlite3.Connection) -> dict[str, Object]:
@@ -271,19 +271,19 @@ def read_objects(conn: sqlite3.Connection) -> dict[str, Object]:
 
 def read_roots(conn):
     """All roots, in nixkeep's order: by kind, target and label."""
-    found = []
+    roots = []
     for name, it in conn.execute("SELECT * FROM permanent"):
-        found.append(Root("permanent", it, f"gcroots/{name}", None, name, None))
+        roots.append(Root("permanent", it, f"gcroots/{name}", None, name, None))
     for owner, name, it in conn.execute("SELECT * FROM user_root"):
-        found.append(Root("user", it, f"gcroots/per-user/{owner}/{name}", owner, name, None))
+        roots.append(Root("user", it, f"gcroots/per-user/{owner}/{name}", owner, name, None))
     for owner, name, num, it in conn.execute("SELECT * FROM generation"):
-        found.append(Root("profile", it, f"profiles/per-user/{owner}/{name}-{num}-link", owner, name, num))
+        roots.append(Root("profile", it, f"profiles/per-user/{owner}/{name}-{num}-link", owner, name, num))
     for label, it in conn.execute("SELECT * FROM runtime"):
-        found.append(Root("runtime", it, label, None, None, None))
+        roots.append(Root("runtime", it, label, None, None, None))
     if "temp_root" in tables_of(conn):
         for owner, session, it in conn.execute("SELECT * FROM temp_root"):
-            found.append(Root("temporary", it, f"{{temp:{session}}}", owner, None, session))
-    return sorted(found, key=lambda it: (KINDS.index(it.kind), it.target, it.label, it.owner or ""))
+            roots.append(Root("temporary", it, f"{{temp:{session}}}", owner, None, session))
+    return sorted(roots, key=lambda it: (KINDS.index(it.kind), it.target, it.label, it.owner or ""))
 
 
 def read(conn: sqlite3.Connection) -> Store:
@@ -298,12 +298,12 @@ def read(conn: sqlite3.Connection) -> Store:
 
 def edges(store: Store, keep_outputs: bool = False, keep_derivers: bool = True) -> dict:
     """A list for each path: the objects that this object keeps directly, under these settings of a configuration."""
-    found = {}
+    edges = {}
     for base, it in store.objects.items():
         outputs = it.outputs.values() if keep_outputs else []
         derivers = [it.deriver] if keep_derivers else []
-        found[base] = [to for to in (*it.references, *outputs, *derivers) if to in store.objects]
-    return found
+        edges[base] = [to for to in (*it.references, *outputs, *derivers) if to in store.objects]
+    return edges
 
 
 def reach(kept: dict[str, list[str]], starts: Iterable[str]) -> set[str]:
@@ -320,7 +320,7 @@ def reach(kept: dict[str, list[str]], starts: Iterable[str]) -> set[str]:
 def _components(kept):
     """The paths in groups, each group before what it keeps. Those of a cycle, which keep one another, are together.
     (Tarjan's algorithm: nobody's chain of cycles takes longer than its length.)"""
-    numbers, lows, left, found, grouped = {}, {}, [], [], set()
+    numbers, lows, left, components, grouped = {}, {}, [], [], set()
     for start in kept:
         open_ones = [] if start in numbers else [(start, iter(kept[start]))]
         while open_ones:
@@ -334,15 +334,15 @@ def _components(kept):
                 if open_ones:
                     lows[open_ones[-1][0]] = min(lows[open_ones[-1][0]], lows[at])
                 if lows[at] == numbers[at]:
-                    found.append([left.pop()])
-                    while found[-1][-1] != at:
-                        found[-1].append(left.pop())
-                    grouped.update(found[-1])
+                    components.append([left.pop()])
+                    while components[-1][-1] != at:
+                        components[-1].append(left.pop())
+                    grouped.update(components[-1])
             elif to in numbers:
                 lows[at] = min(lows[at], numbers[to])
             else:
                 open_ones.append((to, iter(kept[to])))
-    return found[::-1]
+    return components[::-1]
 
 
 def keepers(store: Store, kept: dict[str, list[str]],
@@ -364,10 +364,10 @@ def keepers(store: Store, kept: dict[str, list[str]],
 
 def _sizes(store, bits):
     """The bytes of the objects that share a number of `keepers`, by this number."""
-    found = collections.Counter()
+    sizes = collections.Counter()
     for base, it in bits.items():
-        found[it] += store.objects[base].size
-    return found
+        sizes[it] += store.objects[base].size
+    return sizes
 
 
 def _usage(sizes, roots):

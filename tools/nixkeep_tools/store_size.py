@@ -27,15 +27,15 @@ def of_log(file):
     Frames that are left from before the log was begun anew have another salt.
     """
     with contextlib.suppress(FileNotFoundError), open(file, "rb", buffering=0) as log:
-        head, at, first, found = log.read(32), 32, None, None
+        head, at, first, last = log.read(32), 32, None, None
         size = int.from_bytes(head[8:12], "big") if len(head) == 32 else 0
         while size and len(frame := os.pread(log.fileno(), 24, at)) == 24 and frame[8:16] == head[16:24]:
             number, pages = struct.unpack(">2I", frame[:8])
             first = at + 24 if number == 1 else first
-            found = (pages, first) if pages else found
+            last = (pages, first) if pages else last
             at += 24 + size
-        if found and found[1]:
-            return found[0], int.from_bytes(os.pread(log.fileno(), 4, found[1] + 36), "big")
+        if last and last[1]:
+            return last[0], int.from_bytes(os.pread(log.fileno(), 4, last[1] + 36), "big")
     return None
 
 

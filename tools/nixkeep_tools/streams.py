@@ -124,9 +124,9 @@ class Input:
         if isinstance(self.file, io.BytesIO):
             import tempfile
 
-            found = self.file.getbuffer()
+            data = self.file.getbuffer()
             self.file = tempfile.TemporaryFile()
-            self.file.write(found)
+            self.file.write(data)
 
     def parts(self) -> Iterator[bytes]:
         """Yields exactly `length` bytes."""

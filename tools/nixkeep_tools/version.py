@@ -21,6 +21,6 @@ def line(tool: str) -> str:
     return f"{tool}, of an unknown version"
 
 
-def add_to(asked: "argparse.ArgumentParser") -> None:
+def add_to(parser: "argparse.ArgumentParser") -> None:
     """Adds the option to a command line."""
-    asked.add_argument("--version", action="version", version=line(asked.prog), help="print the version, and end")
+    parser.add_argument("--version", action="version", version=line(parser.prog), help="print the version, and end")
