@@ -58,9 +58,7 @@ def pytest_terminal_summary(terminalreporter):
 
 @pytest.hookimpl(tryfirst=True)
 def pytest_runtest_setup(item):
-    needed = [tool for it in item.iter_markers("needs") for tool in it.args]
-    if why := report.missing(needed):
-        pytest.skip(why)
+    report.skip_without(*(tool for it in item.iter_markers("needs") for tool in it.args))
 
 
 # ---- what tests are given
@@ -156,6 +154,13 @@ def folder():
 def shared_folder():
     """A folder that the tests of a module share."""
     with tempfile.TemporaryDirectory() as made:
+        yield made
+
+
+@pytest.fixture(scope="module")
+def pool() -> Iterator[ThreadPoolExecutor]:
+    """As many threads as there are processors."""
+    with ThreadPoolExecutor(len(os.sched_getaffinity(0))) as made:
         yield made
 
 

@@ -27,7 +27,6 @@ import random
 import socket
 import subprocess
 import tempfile
-from concurrent.futures import ThreadPoolExecutor
 
 import pytest
 
@@ -294,12 +293,6 @@ def try_each(pool, tried, fault, run=try_one):
     chosen = range(1, total + 1) if fault.session.name == SHORTEST else tried.some(total, fault.name())
     for at, (why, _) in zip(chosen, pool.map(functools.partial(run, tried, fault), chosen)):
         check(fault, at, why)
-
-
-@pytest.fixture(scope="module")
-def pool():
-    with ThreadPoolExecutor(len(os.sched_getaffinity(0))) as made:
-        yield made
 
 
 @pytest.fixture(scope="module")

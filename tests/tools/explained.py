@@ -1,7 +1,6 @@
 """What the tests of nixkeep-explain share: what it prints, what the program says of the same file, and random files."""
 import contextlib
 import io
-import os
 import random
 import shutil
 import sqlite3
@@ -10,6 +9,7 @@ import subprocess
 from nixkeep_dev.build.program import HERE
 from nixkeep_dev.model.worlds import World
 from nixkeep_dev.testing import report
+from nixkeep_dev.testing.store import remove
 from nixkeep_dev.testing.tables import made_by, put, some_built
 from nixkeep_tools import explain
 
@@ -39,9 +39,7 @@ class Program:
         """What it answers to an opening of a copy, if it refuses that."""
         copy = shutil.copy(path, f"{self.folder}/copy.db")
         _, errors, status = self(copy, *options, "list")
-        for it in (copy, copy + "-wal"):
-            with contextlib.suppress(FileNotFoundError):
-                os.remove(it)
+        remove(copy)
         return errors.strip() if status else None
 
     def agrees(self, path: str, what: str) -> str:

@@ -36,7 +36,7 @@ def program(requests):
 @contextlib.contextmanager
 def deployed(nixkeep: str, folder: str, conf: str, changes: Iterable[tuple[str, str]] = ()) -> Iterator[Any]:
     """The deployment with one of nginx's files. Nothing of it runs yet. `by_program` says whether a program knows the
-    users, and `asked` has what the stand-in for it was asked."""
+    users, and `requests` has what the stand-in for it was asked."""
     requests = []
     with answering(program(requests)) as url:
         site = TEAM.Deployment(nixkeep, folder, conf, [(SOCKET, url.partition("//")[2]), *changes])

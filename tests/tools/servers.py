@@ -102,13 +102,8 @@ class Handler(BaseHTTPRequestHandler):
         except OSError:
             return self.answer(502, b"<html>nobody is behind</html>")
         if behind.cut:
-            self.send_response(200)
-            self.send_header("content-type", "text/plain")
-            self.send_header("content-length", str(len(text)))
-            self.end_headers()
-            self.wfile.write(text[: behind.cut])
             self.close_connection = True
-            return None
+            return self.answer(200, text[: behind.cut], "text/plain", **{"content-length": str(len(text))})
         return self.answer(reply.status, text, reply.headers["content-type"])
 
     do_GET = do_POST = do_DELETE = pass_on

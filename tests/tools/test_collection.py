@@ -10,7 +10,6 @@ import re
 import shutil
 import subprocess
 import sys
-import tempfile
 from pathlib import Path
 
 import pytest
@@ -85,18 +84,17 @@ def test_more():
 
 
 @pytest.fixture(scope="module")
-def copied():
-    with tempfile.TemporaryDirectory() as top:
-        for name in COPIED:
-            Path(f"{top}/{name}").parent.mkdir(parents=True, exist_ok=True)
-            put = shutil.copytree if Path(f"{HERE}/{name}").is_dir() else shutil.copy2
-            put(f"{HERE}/{name}", f"{top}/{name}")
-        Path(f"{top}/tests/cases/kinds.txt").write_text(CASE)
-        os.mkdir(f"{top}/tests/tools")
-        Path(f"{top}/tests/tools/test_kinds.py").write_text(MODULE)
-        os.mkdir(f"{top}/tests/compare")
-        Path(f"{top}/tests/compare/examples.py").write_text(EXAMPLES)
-        yield top
+def copied(shared_folder):
+    for name in COPIED:
+        Path(f"{shared_folder}/{name}").parent.mkdir(parents=True, exist_ok=True)
+        put = shutil.copytree if Path(f"{HERE}/{name}").is_dir() else shutil.copy2
+        put(f"{HERE}/{name}", f"{shared_folder}/{name}")
+    Path(f"{shared_folder}/tests/cases/kinds.txt").write_text(CASE)
+    os.mkdir(f"{shared_folder}/tests/tools")
+    Path(f"{shared_folder}/tests/tools/test_kinds.py").write_text(MODULE)
+    os.mkdir(f"{shared_folder}/tests/compare")
+    Path(f"{shared_folder}/tests/compare/examples.py").write_text(EXAMPLES)
+    return shared_folder
 
 
 @pytest.fixture

@@ -20,6 +20,7 @@ import pytest
 import parts
 from nixkeep_dev.build.layout import version
 from nixkeep_dev.build.program import HERE
+from nixkeep_dev.testing import report
 
 MODULE, PACKAGE = f"{HERE}/examples/nixos/module.nix", f"{HERE}/examples/nixos/package.nix"
 CONTAINER = f"{HERE}/examples/container/Containerfile"
@@ -37,6 +38,7 @@ LIB = """{
 
 def evaluated(expression):
     """The value of an expression of Nix, which needs no store."""
+    report.skip_without("nix-instantiate")
     with tempfile.TemporaryDirectory() as folder:
         environment = {"HOME": folder, "NIX_STATE_DIR": f"{folder}/state", "NIX_STORE_DIR": f"{folder}/store"}
         words = ["nix-instantiate", "--eval", "--strict", "--json", "--readonly-mode", "--expr", expression]
@@ -46,8 +48,6 @@ def evaluated(expression):
 
 
 # ---- NixOS
-
-needs_nix = pytest.mark.needs("nix-instantiate", "dpkg-deb", "python3-aiohttp")
 
 
 @pytest.fixture(scope="module")
@@ -59,20 +59,17 @@ def machine():
     return evaluated(f"(import {MODULE} {{ lib = {LIB}; config = {config}; }}).config")
 
 
-@needs_nix
 def test_the_groups_of_the_module(machine):
     assert machine["users"]["groups"] == {"nixkeep-blue": {"members": ["caddy", "ops"]},
                                           "nixkeep-red": {"members": ["nginx"]}}
     assert "SocketGroup=nixkeep-%i" in Path(f"{HERE}/packaging/nixkeep@.socket").read_text()
 
 
-@needs_nix
 def test_the_packages_of_the_module(machine):
     assert machine["systemd"]["packages"] == ["/nixkeep"]
     assert machine["environment"]["systemPackages"] == ["/nixkeep"]
 
 
-@needs_nix
 @pytest.mark.parametrize("kind, target", [("sockets", "sockets.target"), ("services", "multi-user.target")])
 def test_the_units_of_the_module(machine, kind, target):
     units = machine["systemd"][kind]
@@ -83,7 +80,6 @@ def test_the_units_of_the_module(machine, kind, target):
     assert Path(f"{HERE}/packaging/nixkeep@.{kind.removesuffix('s')}").exists()
 
 
-@needs_nix
 def test_the_program_takes_the_configuration_of_the_module(machine, program, folder):
     file = f"{folder}/red.toml"
     Path(file).write_text(machine["environment"]["etc"]["nixkeep/red.toml"]["text"])
@@ -91,39 +87,36 @@ def test_the_program_takes_the_configuration_of_the_module(machine, program, fol
     assert ran.stdout == b"class: trusted\nconnect: yes\n"
 
 
-@needs_nix
 def test_without_a_store_the_module_makes_nothing():
     assert evaluated(f"(import {MODULE} {{ lib = {LIB}; config.services.nixkeep.stores = {{ }}; }}).config") == {}
 
 
 @pytest.fixture(scope="module")
-def installed(program):
+def installed(program, shared_folder):
     """What the phase of installation of package.nix makes of an archive, and the version that it has."""
-    with tempfile.TemporaryDirectory() as folder:
-        room, out = f"{folder}/package", f"{folder}/out"
-        os.makedirs(room)
-        words = [f"{HERE}/bin/package", "--to", room, "--program", program]
-        ran = subprocess.run(words, capture_output=True, text=True)
-        archive = ran.stdout.splitlines()[1]
-        stand_in = f"{{ lib = {LIB}; stdenv.mkDerivation = it: it; autoPatchelfHook = 1; " \
-                   "python3.withPackages = f: f { aiohttp = 1; zstandard = 1; jinja2 = 1; }; " \
-                   f"src = {archive}; }}"
-        package = evaluated(f"removeAttrs (import {PACKAGE} {stand_in}) [ \"src\" ]")
-        subprocess.run(["tar", "-xf", archive, "--strip-components=1", "-C", room], check=True)
-        ran = subprocess.run(["bash", "-ec", package["installPhase"]], cwd=room, env={**os.environ, "out": out},
-                             capture_output=True, text=True)
-        assert (ran.returncode, ran.stderr) == (0, "")
-        yield out, package["version"]
+    report.skip_without("nix-instantiate", "dpkg-deb")
+    room, out = f"{shared_folder}/package", f"{shared_folder}/out"
+    os.makedirs(room)
+    words = [f"{HERE}/bin/package", "--to", room, "--program", program]
+    ran = subprocess.run(words, capture_output=True, text=True)
+    archive = ran.stdout.splitlines()[1]
+    stand_in = f"{{ lib = {LIB}; stdenv.mkDerivation = it: it; autoPatchelfHook = 1; " \
+               "python3.withPackages = f: f { aiohttp = 1; zstandard = 1; jinja2 = 1; }; " \
+               f"src = {archive}; }}"
+    package = evaluated(f"removeAttrs (import {PACKAGE} {stand_in}) [ \"src\" ]")
+    subprocess.run(["tar", "-xf", archive, "--strip-components=1", "-C", room], check=True)
+    ran = subprocess.run(["bash", "-ec", package["installPhase"]], cwd=room, env={**os.environ, "out": out},
+                         capture_output=True, text=True)
+    assert (ran.returncode, ran.stderr) == (0, "")
+    return out, package["version"]
 
 
-@needs_nix
 def test_the_version_of_the_package(installed):
     assert installed[1] == version()
     ran = subprocess.run([f"{installed[0]}/bin/nixkeep-explain", "--version"], capture_output=True, text=True)
     assert ran.stdout == f"nixkeep-explain {version()}\n"
 
 
-@needs_nix
 def test_the_units_of_the_package(installed):
     units = [*Path(f"{installed[0]}/lib/systemd/system").iterdir()]
     assert units

@@ -16,7 +16,6 @@ import sqlite3
 import struct
 import subprocess
 import sys
-import tempfile
 import time
 from pathlib import Path
 
@@ -26,7 +25,7 @@ from nixkeep_dev.build.program import HERE
 from nixkeep_dev.model.tables import TABLES, columns_of, making
 from nixkeep_dev.testing.nar import STORE, hidden
 from nixkeep_dev.testing.requests import text as text_body
-from nixkeep_dev.testing.store import killed
+from nixkeep_dev.testing.store import copy, killed, remove
 from nixkeep_dev.testing.tables import ALL, BEFORE, Built, made_by, put, sqlite, statements
 from nixkeep_dev.testing.unsound import Faulty, schemas
 from nixkeep_tools import explain, explain_file, store_file
@@ -71,13 +70,12 @@ PLANTED = {(schema, what): text for schema in (1, 2, 3) for what, text in faults
 
 
 @pytest.fixture(scope="module")
-def sound():
+def sound(shared_folder):
     """A sound file of each schema."""
-    with tempfile.TemporaryDirectory() as folder:
-        paths = {schema: f"{folder}/sound{schema}.db" for schema in (1, 2, 3)}
-        for schema, path in paths.items():
-            put(path, FAULTY.store.rows(schema), made_by(schema))
-        yield paths
+    paths = {schema: f"{shared_folder}/sound{schema}.db" for schema in (1, 2, 3)}
+    for schema, path in paths.items():
+        put(path, FAULTY.store.rows(schema), made_by(schema))
+    return paths
 
 
 @pytest.mark.parametrize("schema", [1, 2, 3])
@@ -441,16 +439,12 @@ def from_sqlite(folder, path):
     """What has to be said of the log of a file, and its objects: SQLite says how many frames count."""
     with open(path + "-wal", "rb") as file:
         log = file.read()
-    copy = f"{folder}/read.db"
-    for end in ("", "-wal"):
-        shutil.copy(path + end, copy + end)
-    with contextlib.closing(sqlite3.connect(copy)) as conn:
+    copied = copy(path, f"{folder}/read.db")
+    with contextlib.closing(sqlite3.connect(copied)) as conn:
         used = max(conn.execute("PRAGMA wal_checkpoint").fetchone()[1], 0)
         is_made = conn.execute("SELECT count(*) FROM sqlite_schema WHERE name = 'object'").fetchone()[0]
         objects = conn.execute("SELECT count(*) FROM object").fetchone()[0] if is_made else 0
-    for it in (copy, copy + "-wal"):
-        with contextlib.suppress(FileNotFoundError):
-            os.remove(it)
+    remove(copied)
     heads = [log[at:at + 24] for at in range(32, len(log) - 4119, 4120)]
     written = max((at for at, it in enumerate(heads, 1) if it[8:16] == log[16:24]), default=0)
     left = heads[used:max(written, used)]

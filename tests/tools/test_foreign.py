@@ -7,7 +7,7 @@ import types
 import pytest
 
 from nixkeep_dev.build.program import HERE
-from nixkeep_dev.testing import nar
+from nixkeep_dev.testing import nar, report
 from nixkeep_tools import blob_reading, blobs, http_client, objects, pointers, real_nix
 from nixkeep_tools.failures import Stop
 from tests.tools import replies
@@ -155,6 +155,7 @@ def test_escapes_elsewhere():
 @pytest.fixture
 def bucket(monkeypatch):
     """A bucket at a URL."""
+    report.skip_without("python3-boto3")
     from nixkeep_tools import blobs_bucket
 
     for name, value in (("ACCESS_KEY_ID", "a"), ("SECRET_ACCESS_KEY", "b"), ("DEFAULT_REGION", "us-east-1")):
@@ -171,7 +172,6 @@ def part(at):
     return 206, OCTETS, BLOB[at:], ("content-range", f"bytes {at}-255/256")
 
 
-@pytest.mark.needs("python3-boto3")
 @pytest.mark.parametrize("reply, is_right", [(part(100), True), ((200, OCTETS, BLOB), False), (part(107), False),
                                              (part(1000), False)],
                          ids=["that part", "all in the place of a part", "another part", "a part of another place"])
@@ -185,7 +185,6 @@ def test_parts_of_a_blob_in_a_bucket(reply, is_right, bucket):
                 work()
 
 
-@pytest.mark.needs("python3-boto3")
 def test_a_bucket_that_does_not_answer(bucket):
     with answering(lambda *_: time.sleep(2) or text(200, b"")) as url:
         place = bucket(url)
@@ -205,7 +204,6 @@ def listing(keys, more=None):
     return 200, "application/xml", f"<ListBucketResult>{listed}</ListBucketResult>".encode()
 
 
-@pytest.mark.needs("python3-boto3")
 @pytest.mark.parametrize("status", [200, 403, 404, 500])
 def test_answers_of_a_bucket_without_an_end(status, bucket, monkeypatch):
     """What is read whole of a bucket has an end."""
@@ -221,7 +219,6 @@ def test_answers_of_a_bucket_without_an_end(status, bucket, monkeypatch):
                 work()
 
 
-@pytest.mark.needs("python3-boto3")
 def test_a_bucket_that_lists_without_an_end(bucket, monkeypatch):
     from nixkeep_tools import blobs_bucket
 
@@ -237,7 +234,6 @@ def test_a_bucket_that_lists_without_an_end(bucket, monkeypatch):
     assert next(count) == 6
 
 
-@pytest.mark.needs("python3-boto3")
 def test_blobs_of_other_stores_in_a_bucket(bucket):
     """A prefix may be the beginning of another one."""
     keys = [f"p/{blobs.key_of(NAMES[0])}", f"p/q/{blobs.key_of(NAMES[1])}", f"q/{blobs.key_of(NAMES[2])}",
@@ -258,7 +254,6 @@ BROKEN = {
 }
 
 
-@pytest.mark.needs("python3-boto3")
 @pytest.mark.parametrize("what", BROKEN)
 def test_answers_that_no_bucket_gives(what, bucket):
     with answering(lambda *_: BROKEN[what]) as url:
@@ -268,7 +263,6 @@ def test_answers_that_no_bucket_gives(what, bucket):
                 work(NAMES[0])
 
 
-@pytest.mark.needs("python3-boto3")
 @pytest.mark.parametrize("old, new", [("2026-01-01T00:00:00Z", "99999999999999999999"), ("2026-01-01T00:00:00Z", "x"),
                                       (">5<", f">{'9' * 5000}<"), (">5<", "><"), ("Key>", "Name>")])
 def test_listings_that_no_bucket_gives(old, new, bucket):

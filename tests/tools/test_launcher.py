@@ -9,7 +9,6 @@ import select
 import shutil
 import signal
 import subprocess
-import tempfile
 import time
 from pathlib import Path
 
@@ -22,12 +21,11 @@ ANSWER = "it runs a b c\n"
 
 
 @pytest.fixture(scope="module")
-def first():
+def first(shared_folder):
     """A repository, and what came of the first run in it."""
-    with tempfile.TemporaryDirectory(prefix="nixkeep-launcher-") as room:
-        repository = Repository(room)
-        # (so long that a busy machine starts both within that time)
-        yield repository, repository.run(seconds="left=3 right=3")
+    repository = Repository(shared_folder)
+    # (so long that a busy machine starts both within that time)
+    return repository, repository.run(seconds="left=3 right=3")
 
 
 @pytest.fixture

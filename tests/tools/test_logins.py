@@ -2,7 +2,6 @@
 store, what forged fields come to, what other sites' pages may do, what the log has, and large archives."""
 import json
 import re
-import tempfile
 from pathlib import Path
 
 import pytest
@@ -18,10 +17,9 @@ NOBODY = (400, b"refused: 20 bad-caller\n")
 
 
 @pytest.fixture(scope="module")
-def site(program):
-    with tempfile.TemporaryDirectory() as folder, deployed(program, folder, "auth-request.conf") as made:
-        with made.servers["red"], made.nginx:
-            yield made
+def site(program, shared_folder):
+    with deployed(program, shared_folder, "auth-request.conf") as made, made.servers["red"], made.nginx:
+        yield made
 
 
 def who(user, *more):

@@ -17,7 +17,7 @@ from pathlib import Path
 import pytest
 
 import parts
-from nixkeep_dev.testing import nar, stores
+from nixkeep_dev.testing import nar, report, stores
 from nixkeep_tools import overview, overview_source, store_file
 from parts import body
 from tests.tools import servers
@@ -83,10 +83,10 @@ def most():
 
 
 @pytest.fixture(scope="module")
-def large():
+def large(shared_folder):
     """The file of a store with 10,000 objects, and the path of its first."""
-    with tempfile.TemporaryDirectory() as folder:
-        yield f"{folder}/large.db", stores.put_store(f"{folder}/large.db", 10_000, random.Random(1), 60, HOSTILE)[0]
+    file = f"{shared_folder}/large.db"
+    return file, stores.put_store(file, 10_000, random.Random(1), 60, HOSTILE)[0]
 
 
 def ran(*words):
@@ -154,8 +154,6 @@ def test_a_long_chain():
 
 # ---- as it is served
 
-needs_cache = pytest.mark.needs("curl", "python3-aiohttp")
-
 
 class Site:
     """nixkeep-cache before the server of a small store, and the paths of that."""
@@ -176,17 +174,16 @@ class Site:
 
 
 @pytest.fixture(scope="module")
-def site(program):
-    with tempfile.TemporaryDirectory() as folder:
-        config, file = f"{folder}/red.toml", f"{folder}/store.db"
-        Path(config).write_text('allowed-users = ["ann"]\ntrusted-users = ["build"]\n')
-        made = stores.put_store(file, 40, random.Random(2), 3, HOSTILE)
-        with parts.server(program, folder, config, file) as server, \
-                parts.cache(folder, server.place, None, "--proxied", "--config", config) as cache:
-            yield Site(server, cache, made)
+def site(program, shared_folder):
+    report.skip_without("curl", "python3-aiohttp")
+    config, file = f"{shared_folder}/red.toml", f"{shared_folder}/store.db"
+    Path(config).write_text('allowed-users = ["ann"]\ntrusted-users = ["build"]\n')
+    made = stores.put_store(file, 40, random.Random(2), 3, HOSTILE)
+    with parts.server(program, shared_folder, config, file) as server, \
+            parts.cache(shared_folder, server.place, None, "--proxied", "--config", config) as cache:
+        yield Site(server, cache, made)
 
 
-@needs_cache
 def test_who_sees_what(site):
     status, text = site.get("build")
     assert status == 200 and b"Who keeps what in red</h1>" in text, "a trusted user, with the name by the configuration"
@@ -202,7 +199,6 @@ def test_who_sees_what(site):
     assert site.get("eve") == (403, b"denied: connect\n")
 
 
-@needs_cache
 def test_why_a_path_is_kept(site):
     status, text = site.get("ann", f"/overview?why=/nix/store/{site.paths[0]}")
     assert status == 200 and b"first root" in text
@@ -329,6 +325,7 @@ async def attacked(browser, site):
 @pytest.fixture(scope="module")
 def browse():
     """Runs a function on the page of Chromium, as a trusted user of the store."""
+    report.skip_without("curl", "chromium", "dot", "python3-aiohttp")
     import aiohttp
 
     async def run(work, *words):
@@ -351,10 +348,6 @@ def browse():
             yield lambda *it: asyncio.run(run(*it))
 
 
-needs_browser = pytest.mark.needs("curl", "chromium", "dot", "python3-aiohttp")
-
-
-@needs_browser
 @pytest.mark.parametrize("scheme", ["light", "dark"])
 @pytest.mark.parametrize("width", [390, 1280])
 @pytest.mark.parametrize("page", ["figures", "why", "day"])
@@ -365,12 +358,10 @@ def test_a_page_in_a_browser(page, width, scheme, site, browse):
     browse(looked_at, site.url + targets[page], width, scheme)
 
 
-@needs_browser
 def test_the_keyboard_in_a_browser(site, browse):
     browse(keyboard, f"{site.url}/overview")
 
 
-@needs_browser
 def test_a_page_of_another_site_in_a_browser(site, browse):
     browse(attacked, site)
 
@@ -378,7 +369,6 @@ def test_a_page_of_another_site_in_a_browser(site, browse):
 # ---- what changes the store, after all else
 
 
-@needs_cache
 def test_a_collection(site):
     dead = [path for path in site.paths if b"No root" in site.get("ann", f"/overview?why={path}")[1]]
     assert site.get("ann", "/report")[1].splitlines()[2].split()[1] == str(len(dead)).encode()
@@ -392,7 +382,6 @@ def test_a_collection(site):
     assert ran(*at, "eve").stderr == "nixkeep-overview: denied: connect\n"
 
 
-@needs_cache
 def test_a_drawing_that_fails(site, folder, monkeypatch):
     """Where `dot` fails, a page has the chain without the drawing."""
     dot = Path(folder, "dot")

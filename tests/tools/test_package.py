@@ -11,7 +11,6 @@ import os
 import re
 import shutil
 import tarfile
-import tempfile
 from pathlib import Path
 
 import pytest
@@ -19,6 +18,7 @@ import pytest
 from nixkeep_dev.build import layout, release
 from nixkeep_dev.build import program as built
 from nixkeep_dev.build.program import HERE
+from nixkeep_dev.testing import report
 from tests.tools import packed
 from tests.tools.packed import pack, ran
 
@@ -27,7 +27,6 @@ GREETING = "/nix/store/ybf7by4xvcgjhwilsg87rqz9di79bify-greeting"
 CONFIGURATION = "etc/nixkeep/store.toml"
 LIBRARIES = ("/lib64/ld-linux-x86-64.so.2", "/lib/x86_64-linux-gnu/libc.so.6")
 TOOLS = [it for it in layout.names_in("tools") if it.startswith("nixkeep-")]
-needs_dpkg = pytest.mark.needs("dpkg-deb", "dpkg")
 
 
 def greets(words):
@@ -42,10 +41,10 @@ def given(pytestconfig):
 
 
 @pytest.fixture(scope="module")
-def both(given):
+def both(given, shared_folder):
     """The package, and the archive of its files."""
-    with tempfile.TemporaryDirectory(prefix="nixkeep-package-test-") as room:
-        yield pack(room, given)
+    report.skip_without("dpkg-deb", "dpkg")
+    return pack(shared_folder, given)
 
 
 @pytest.fixture(scope="module")
@@ -54,22 +53,19 @@ def deb(both):
 
 
 @pytest.fixture(scope="module")
-def files(deb):
+def files(deb, shared_folder):
     """The folder with the files of the package."""
-    with tempfile.TemporaryDirectory() as room:
-        ran(["dpkg-deb", "-x", deb, room])
-        yield room
+    ran(["dpkg-deb", "-x", deb, f"{shared_folder}/files"])
+    return f"{shared_folder}/files"
 
 
 # ---- the files
 
 
-@needs_dpkg
 def test_two_packages_have_the_same_bytes(both, given, folder):
     assert [layout.sum_of(it) for it in pack(folder, given)] == [layout.sum_of(it) for it in both]
 
 
-@needs_dpkg
 def test_the_archive_has_the_files_of_the_package(both):
     """All are root's, and only programs can be run."""
     deb, archive = both
@@ -84,20 +80,17 @@ def test_the_archive_has_the_files_of_the_package(both):
     assert [it for it in run_by if not it.startswith(("./usr/bin/", "./usr/lib/"))] == []
 
 
-@needs_dpkg
 def test_what_the_archive_has_runs_where_it_is_unpacked(both, folder):
     ran(["tar", "-xf", both[1], "--strip-components=1", "-C", folder])
     assert greets([f"{folder}/usr/bin/nixkeep"]) == (0, f"{GREETING}\n")
     assert ran([f"{folder}/usr/bin/nixkeep-remote", "--version"]) == (0, f"nixkeep-remote {layout.version()}\n")
 
 
-@needs_dpkg
 def test_sums_of_the_sources_are_there_where_they_were_proved(files, given):
     """A package of a program that is given has none."""
     assert Path(f"{files}/usr/share/doc/nixkeep/sources.sha256").exists() != bool(given)
 
 
-@needs_dpkg
 def test_the_sums_of_the_sources(deb, given, folder):
     if not release.is_ready():
         pytest.skip("the sums of the sources: neither release/ nor what was proved here is of these sources")
@@ -110,7 +103,6 @@ def test_the_sums_of_the_sources(deb, given, folder):
 # ---- what it depends on
 
 
-@needs_dpkg
 def test_the_package_needs_the_c_library_of_the_program(deb, files):
     """It is the one of which the program names a function."""
     depends = packed.depends(deb)
@@ -118,7 +110,6 @@ def test_the_package_needs_the_c_library_of_the_program(deb, files):
     assert "python3 (>= 3.11)" in depends
 
 
-@needs_dpkg
 def test_the_package_needs_what_the_tools_import(deb):
     assert packed.python_packages(deb) == packed.imported()
 
@@ -168,9 +159,9 @@ def test_the_unit_allows_the_system_calls_of_the_server(files, folder):
 
 
 class Root:
-    """A root with the C library of this machine and an empty list of packages."""
+    """A root with the C library of this machine, where the package alone is installed."""
 
-    def __init__(self, root):
+    def __init__(self, root, deb):
         self.root = root
         for folder in ("var/lib/dpkg/info", "var/lib/dpkg/updates", "var/lib/dpkg/triggers", "tmp", "dev"):
             os.makedirs(f"{root}/{folder}")
@@ -180,6 +171,7 @@ class Root:
             Path(f"{root}{path}").parent.mkdir(parents=True, exist_ok=True)
             shutil.copyfile(str(Path(path).resolve()), f"{root}{path}")
             os.chmod(f"{root}{path}", 0o755)
+        self.dpkg("--install", deb)
 
     def dpkg(self, *words):
         """Runs dpkg on the files, where there is no shell for the package's scripts, and no other package."""
@@ -195,23 +187,17 @@ class Root:
 
 
 @pytest.fixture(scope="module")
-def installed(deb):
+def installed(deb, shared_folder):
     """A root in which the package is installed."""
-    with tempfile.TemporaryDirectory() as root:
-        made = Root(root)
-        made.dpkg("--install", deb)
-        yield made
+    return Root(f"{shared_folder}/root", deb)
 
 
 @pytest.fixture
 def fresh(deb, folder):
     """Another one, which a test changes."""
-    made = Root(f"{folder}/root")
-    made.dpkg("--install", deb)
-    return made
+    return Root(f"{folder}/root", deb)
 
 
-@needs_dpkg
 def test_dpkg_lists_the_package(installed):
     query = ["dpkg-query", f"--admindir={installed.root}/var/lib/dpkg", "-W"]
     _, printed = ran([*query, "-f", "${Status} ${Version}${Conffiles}", "nixkeep"])
@@ -219,7 +205,6 @@ def test_dpkg_lists_the_package(installed):
     assert f" /{CONFIGURATION} " in printed, "the configuration is one that dpkg keeps"
 
 
-@needs_dpkg
 def test_the_program_runs_with_the_c_library_alone(fresh):
     if os.geteuid():
         pytest.skip("the program in a root of its own needs root")
@@ -230,7 +215,6 @@ def test_the_program_runs_with_the_c_library_alone(fresh):
     assert ran([*words, "list"]) == (0, f"{GREETING}\n")
 
 
-@needs_dpkg
 def test_the_program_names_no_file_of_the_toolchain(installed):
     if kit := built.toolchain():
         assert kit.encode() not in layout.content(f"{installed.root}/usr/bin/nixkeep")
@@ -248,7 +232,6 @@ def test_an_installation_compiles_the_modules(installed):
     assert not_compiled(f"{installed.root}/usr/lib/nixkeep") == []
 
 
-@needs_dpkg
 @pytest.mark.parametrize("name", TOOLS)
 def test_a_tool_is_installed(installed, name):
     status, said = ran([f"{installed.root}/usr/bin/{name}", "--help"])
@@ -257,7 +240,6 @@ def test_a_tool_is_installed(installed, name):
     assert status == 0 and "usage" in said.lower(), said
 
 
-@needs_dpkg
 def test_an_upgrade(fresh, deb):
     """It leaves a configuration that was changed, and puts the rest anew."""
     configuration = Path(fresh.root, CONFIGURATION)
@@ -268,7 +250,6 @@ def test_an_upgrade(fresh, deb):
     assert os.access(f"{fresh.root}/usr/bin/nixkeep", os.X_OK)
 
 
-@needs_dpkg
 def test_a_removal_leaves_the_configuration_and_a_purge_nothing(fresh):
     fresh.dpkg("--remove", "nixkeep")
     assert fresh.files() == [CONFIGURATION]

@@ -4,7 +4,6 @@ They run over folders of a test in place of the machine's, with commands that lo
 """
 import os
 import subprocess
-import tempfile
 from pathlib import Path
 
 import pytest
@@ -54,9 +53,8 @@ class Scripts:
 
 
 @pytest.fixture(scope="module")
-def deb(program):
-    with tempfile.TemporaryDirectory() as room:
-        yield pack(room, ["--program", program])[0]
+def deb(program, shared_folder):
+    return pack(shared_folder, ["--program", program])[0]
 
 
 @pytest.fixture

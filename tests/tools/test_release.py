@@ -6,7 +6,6 @@ Needs nothing but Python, and no toolchain.
 """
 import os
 import shutil
-import tempfile
 from pathlib import Path
 
 import pytest
@@ -18,12 +17,11 @@ MADE_OF, PACKED = "release/made-of", "release/nixkeep.xz"
 
 
 @pytest.fixture(scope="module")
-def released():
+def released(shared_folder):
     """A repository with a release, which bin/release has made."""
-    with tempfile.TemporaryDirectory(prefix="nixkeep-release-") as room:
-        repository = Repository(room)
-        assert started(repository.run("release")[3])[-1] == "right", "bin/release proves what isn't proved"
-        yield repository
+    repository = Repository(shared_folder)
+    assert started(repository.run("release")[3])[-1] == "right", "bin/release proves what isn't proved"
+    return repository
 
 
 @pytest.fixture

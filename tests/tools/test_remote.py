@@ -16,7 +16,6 @@ import subprocess
 import tempfile
 import threading
 import time
-from concurrent.futures import ThreadPoolExecutor
 from pathlib import Path
 
 import pytest
@@ -51,12 +50,6 @@ gc|--max-freed= gc|--ignore-liveness=1 gc|--ignore-liveness|--ignore-liveness gc
 delete|--ignore-liveness delete|--ignore-liveness|a|--ignore-liveness delete|a|b|--ignore-liveness= text-path|n|--help
 text-path|a|b|c|--x add-text|a|--ca|b list|help help|root help|unroot help|delete help|temp help|gc help|info help|who
 """.split()]
-
-
-@pytest.fixture(scope="module")
-def pool():
-    with ThreadPoolExecutor(len(os.sched_getaffinity(0))) as made:
-        yield made
 
 
 # ---- words

@@ -4,6 +4,7 @@ import re
 
 import pytest
 
+from nixkeep_dev.testing import report
 from nixkeep_tools import credentials, http_place
 from tests.tools import servers, shim
 from tests.tools.remote import ALLOWED, certificate, fails, file_of, trusted
@@ -22,16 +23,13 @@ def test_proxies_netrc(folder, monkeypatch):
 @pytest.fixture
 def tls(port, folder):
     """A proxy with TLS: its URL, and the file of its certificate."""
+    report.skip_without("openssl")
     pair = certificate(folder)
     users = {"ann": "secret:word", "bob": "b"}
     with servers.proxy(port, certificate=pair, users=users, tokens={"t0ken": "carl"}, prefix="/team") as made:
         yield servers.url(made, "https"), pair[0]
 
 
-needs_openssl = pytest.mark.needs("openssl")
-
-
-@needs_openssl
 def test_proxies_credentials(tls, client, folder):
     at, ca = tls
     fails(client(at, "list"), r"failed: certificate: https://\S+: self[- ]signed certificate")
@@ -54,7 +52,6 @@ def test_proxies_credentials(tls, client, folder):
         "another's name")
 
 
-@needs_openssl
 def test_proxies_credentials_that_are_refused(tls, client, folder):
     at, ca = tls
     named = file_of(folder, "credentials", "ann:secret:word\n")

@@ -24,6 +24,7 @@ from pathlib import Path
 import pytest
 
 from nixkeep_dev.build.program import HERE
+from nixkeep_dev.testing import report
 from nixkeep_dev.testing.pages import command_blocks
 from tests.tools.servers import ran
 from tests.tools.ed25519 import VECTORS, coded
@@ -238,6 +239,7 @@ class Load:
 @pytest.fixture(scope="module")
 def machine(program):
     """A machine with the package and the store red."""
+    report.skip_without("systemd-nspawn", "dpkg-deb", "mmdebstrap")
     if os.geteuid():
         pytest.skip("a machine is booted by root alone")
     # (a tree of many small files is unpacked and deleted sooner in memory)
@@ -266,10 +268,6 @@ def states(machine):
     return [machine.state(it) for it in ("nixkeep@red.socket", "nixkeep@red", "nixkeep-backup@red.timer")]
 
 
-on_a_machine = pytest.mark.needs("systemd-nspawn", "dpkg-deb", "mmdebstrap")
-
-
-@on_a_machine
 def test_the_set_up(machine):
     assert states(machine) == ["active"] * 3
     assert machine.output(f"{AS_ANN}/paths -w '%{{http_code}}'") == "200"
@@ -287,7 +285,6 @@ def user_of(machine):
     return machine.output("systemctl show -p UID --value nixkeep@red")
 
 
-@on_a_machine
 def test_who_sees_what(machine):
     assert machine.output("stat -c '%U %G %a' /run/nixkeep/red.socket") == "root nixkeep-red 660", "the socket"
     line = f"{AS_ANN}/paths -o /dev/null -w '%{{http_code}}'"
@@ -309,7 +306,6 @@ def test_who_sees_what(machine):
     assert machine.output(f"stat -c '%u %a' {files}") == "\n".join([f"{user_of(machine)} 600"] * 2), "what is made"
 
 
-@on_a_machine
 def test_signing(machine):
     """Without a key a store signs nothing. One in the folder of credentials signs each record, and a file that is no
     key is a line."""
@@ -334,7 +330,6 @@ def test_signing(machine):
     assert machine.state("nixkeep@red") == "active", "with the key again"
 
 
-@on_a_machine
 def test_restarts_and_kills_under_load(machine):
     """Requests wait while the store restarts, also by itself. What has the connections is killed at the end: then the
     answers are lost that it was about to give, and no others."""
@@ -350,7 +345,6 @@ def test_restarts_and_kills_under_load(machine):
         load.check(lost)
 
 
-@on_a_machine
 def test_a_copy_under_load(machine):
     with Load(machine, "copied") as load:
         time.sleep(2)
@@ -372,7 +366,6 @@ runpy.run_path("/usr/lib/nixkeep/nixkeep-explain.kept", run_name="__main__")
 """
 
 
-@on_a_machine
 def test_a_stop_while_a_copy_is_tested(machine):
     """Whoever stops a server finds it stopped, also once the copy is done. Before that it runs again by itself."""
     machine("cd /usr/lib/nixkeep; cp nixkeep-explain nixkeep-explain.kept")
@@ -397,7 +390,6 @@ HOSTILE = {"mkfifo store.db": "it is no file", "ln -s /dev/zero store.db": "No s
            "mkdir store.db": "Is a directory"}
 
 
-@on_a_machine
 def test_a_service_that_was_taken_over(machine):
     """What it leaves in its folder holds up no copy, stops no server, and has root read or write nothing."""
     main = "systemctl show -p MainPID --value nixkeep@red"
@@ -417,7 +409,6 @@ def test_a_service_that_was_taken_over(machine):
     machine("until systemctl is-active --quiet nixkeep@red; do sleep 0.3; done")
 
 
-@on_a_machine
 def test_the_shell_of_sqlite(machine):
     """The line of the page runs it as the store's account, and the file stays the store's."""
     line = re.search(r"^systemd-run .*?VACUUM$", Path(HERE, "docs/OPERATING.md").read_text(), re.M | re.S)[0]
@@ -430,7 +421,6 @@ def test_the_shell_of_sqlite(machine):
     assert states(machine) == ["active"] * 3
 
 
-@on_a_machine
 def test_a_restore(machine):
     """A timer that comes in the middle of a restore by hand does nothing; then a restore as one command."""
     copies = machine.output("ls /var/lib/nixkeep-backup/red")
@@ -452,7 +442,6 @@ def test_a_restore(machine):
     assert seen == f"{user_of(machine)} 600", "the file's owner and mode"
 
 
-@on_a_machine
 def test_an_upgrade(machine):
     main = "systemctl show -p MainPID --value nixkeep@red"
     before = machine.output(main)
@@ -470,7 +459,6 @@ def test_an_upgrade(machine):
     assert machine.output(main) == after, "and restarts nothing"
 
 
-@on_a_machine
 def test_a_start_that_fails(machine):
     """A server that can't start is started again and again, ever more slowly, and the socket stays."""
     machine("cp /etc/nixkeep/red.toml /root/good.toml; echo wrong >>/etc/nixkeep/red.toml")
@@ -482,7 +470,6 @@ def test_a_start_that_fails(machine):
     assert machine.state("nixkeep@red") == "active", "with a right configuration"
 
 
-@on_a_machine
 def test_a_reboot(machine):
     line = f"{AS_ANN}/paths"
     before = machine.output(line)
@@ -492,7 +479,6 @@ def test_a_reboot(machine):
     assert machine.output(line) == before, "after it the store answers the same"
 
 
-@on_a_machine
 def test_a_removal(machine):
     """The lines of the page, but for nginx's, leave nothing of a store. The other store's configuration stays."""
     machine("cp /root/nixkeep-sweep@.* /etc/systemd/system; systemctl daemon-reload; deluser --quiet proxy-red")

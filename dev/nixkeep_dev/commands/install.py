@@ -59,8 +59,7 @@ def write_list(fresh, places):
 def delete(prefix, places):
     """Deletes files and links, and each folder above them, below the prefix, that is empty then."""
     for place in places:
-        with contextlib.suppress(FileNotFoundError):
-            os.remove(f"{prefix}/{place}")
+        Path(f"{prefix}/{place}").unlink(missing_ok=True)
         if place.endswith(".py"):
             shutil.rmtree(f"{Path(prefix, place).parent}/__pycache__", ignore_errors=True)
     for folder in sorted({above for place in places for above in folders_of(place)}, key=len, reverse=True):

@@ -13,6 +13,7 @@ from pathlib import Path
 
 from nixkeep_dev.build.program import HERE
 from nixkeep_dev.testing import report
+from nixkeep_dev.testing.store import Store
 
 WIDTH, HEIGHT = 900, 575
 CONFIG = 'trusted-users = ["build"]\n'
@@ -40,21 +41,13 @@ KEPT = [
 ]
 
 
-class Store:
-    def __init__(self, program, folder):
-        self.program, self.file, self.config, self.paths = program, f"{folder}/store.db", f"{folder}/red.toml", {}
-        Path(self.config).write_text(CONFIG)
-
-    def run(self, user: str, *words: str, given: bytes = b"") -> str:
-        command = [self.program, "--config", self.config, "--db", self.file, "--user", user, *words]
-        return subprocess.run(command, input=given, stdout=subprocess.PIPE, check=True).stdout.decode().strip()
-
-    def fill(self) -> None:
-        for user, name, file, references in ADDED:
-            words = ["add-text", name, *(self.paths[reference] for reference in references)]
-            self.paths[name] = self.run(user, *words, given=Path(HERE, file).read_bytes())
-        for user, *words in KEPT:
-            self.run(user, *words[:-1], self.paths[words[-1]])
+def fill(store, options):
+    paths = {}
+    for user, name, file, references in ADDED:
+        words = ["add-text", name, *(paths[reference] for reference in references)]
+        paths[name], = store.lines(*words, given=Path(HERE, file).read_bytes(), user=user, options=options)
+    for user, *words in KEPT:
+        store(*words[:-1], paths[words[-1]], user=user, options=options)
 
 
 def take(browser, page, to):
@@ -75,9 +68,11 @@ def main() -> None:
     if not (browser := shutil.which("chromium")):
         sys.exit("bin/picture: needs chromium")
     with tempfile.TemporaryDirectory() as folder:
-        store, page = Store(program, folder), f"{folder}/page.html"
-        store.fill()
-        overview = [f"{HERE}/tools/nixkeep-overview", "--config", store.config, "--db", store.file, "--output", page]
+        store, page = Store(program, f"{folder}/store.db"), f"{folder}/page.html"
+        options = ["--config", f"{folder}/red.toml"]
+        Path(options[1]).write_text(CONFIG)
+        fill(store, options)
+        overview = [f"{HERE}/tools/nixkeep-overview", *options, "--db", store.path, "--output", page]
         subprocess.run(overview, check=True)
         take(browser, page, words.to)
 

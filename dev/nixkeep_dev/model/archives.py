@@ -113,6 +113,14 @@ def file_archive(contents: bytes, is_executable: bool = False) -> bytes:
     return write(("regular", is_executable, contents))
 
 
+def nested(count: int) -> bytes:
+    """The archive of this many directories, each inside the one before."""
+    node = ("directory", [])
+    for _ in range(count - 1):
+        node = ("directory", [(b"a", node)])
+    return write(node)
+
+
 def plain_contents(node: tuple) -> bytes | None:
     """The contents of a regular file that isn't executable; else None."""
     return node[2] if node[:2] == ("regular", False) else None

@@ -136,12 +136,6 @@ class Values:
         names = by.some([b"a", b"b", b"A", b"c d", b"\xc3\xa9", b"\\x", b"..."], 3)
         return kind, [(name, self.node(by, depth + 1)) for name in sorted({*names})]
 
-    def deep(self, count):
-        node = ("directory", [])
-        for _ in range(count - 1):
-            node = ("directory", [(b"a", node)])
-        return archives.write(node)
-
     def broken(self, data: bytes, by: Choices) -> bytes:
         """The bytes with one change."""
         at, change = by.number(max(len(data), 1)), by.number(5)
@@ -159,7 +153,7 @@ class Values:
         """Archives that are near a rule for entries or for depth."""
         leaf, names = ("regular", False, b""), self.form.pick(ENTRIES).split(b"|")
         if self.form.chance(0.2):
-            return self.deep(self.form.pick([256, 257]))[: self.form.pick([None, None, 34_839, 34_840])]
+            return archives.nested(self.form.pick([256, 257]))[: self.form.pick([None, None, 34_839, 34_840])]
         return archives.write(("directory", [(name, leaf) for name in names]))
 
     def archive(self, by: Choices, base: str = "") -> bytes:

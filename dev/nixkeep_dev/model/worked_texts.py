@@ -84,19 +84,12 @@ def archive_faults():
     yield {number(MINE + bytes([byte])) for byte in range(256)}, {7}
     yield number(b"\xff" * 8), 8
     yield [number(size.to_bytes(8, "little")) for size in (16_777_209, 16_777_208)], [8, 1]
-    deep = [nested(count) for count in (256, 257)]
+    deep = [archives.nested(count) for count in (256, 257)]
     yield [(len(it), number(it)) for it in deep], [(42_936, 0), (43_104, 6)]
     yield [number(deep[1][:34_839]), number(deep[1][:34_840])], [1, 6]
     node = "directory", [(b"a", leaf), (b"b", ("symlink", b"a"))]
     yield archives.listing(node), "d .\nr 0 ./a\nl ./b -> a\n"
     yield archives.listing(archives.read(MINE)), "r 10 .\n"
-
-
-def nested(count):
-    node = "directory", []
-    for _ in range(count - 1):
-        node = "directory", [(b"a", node)]
-    return archives.write(node)
 
 
 def derivation_texts():

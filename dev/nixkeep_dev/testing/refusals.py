@@ -1,6 +1,7 @@
 """Words and input that are refused, for each refusal that an empty store in memory can give; and denials."""
 from collections.abc import Iterator
 
+from nixkeep_dev.model.archives import nested
 from nixkeep_dev.testing.http_messages import lines, message
 from nixkeep_dev.testing.nar import archive, derivation, nar_hash, of_node, source_path, strings
 
@@ -11,16 +12,14 @@ ANN, ROOT = ["--user", "ann"], ["--user", "root"]
 def archives():
     """An archive with each fault, by the line that refuses it."""
     empty, whole = ("directory", []), archive(b"abc")
-    deep, of_names = empty, lambda *names: of_node(("directory", [(name, empty) for name in names]))
-    for _ in range(256):
-        deep = "directory", [(b"a", deep)]
+    of_names = lambda *names: of_node(("directory", [(name, empty) for name in names]))
     return {
         "1 truncated": whole[:-1],
         "2 bad-tag": strings(b"nix-archive-1", b"(", b"type", b"folder", b")"),
         "3 bad-padding": whole.replace(b"abc\0", b"abc\1"),
         "4 bad-name": of_names(b"a", b".."),
         "5 not-sorted": of_names(b"b", b"a"),
-        "6 too-deep": of_node(deep),
+        "6 too-deep": nested(257),
         "7 trailing": whole + b"x",
         "8 too-large": b"\xff" * 8,
     }

@@ -111,6 +111,14 @@ def needs(*needed: str) -> None:
         fail(why)
 
 
+def skip_without(*needed: str) -> None:
+    """Skips a test of pytest, or all that a fixture is for, where a tool isn't installed."""
+    import pytest
+
+    if why := missing(needed):
+        pytest.skip(why)
+
+
 def skip(what: str, count: int = 1) -> None:
     """Prints that something is skipped, and why, and counts it."""
     global skipped
