@@ -34,6 +34,7 @@ from nixkeep_dev.testing.http_messages import free_port, lines
 from nixkeep_dev.testing.nar import STORE, archive
 from nixkeep_dev.testing.nix import Nix
 from nixkeep_dev.testing.requests import text
+from tests.tools.remote import certificate
 
 # Up to this number of objects a command has to be faster than Nix's; over a server each number of them.
 BY_COMMAND = 10_000
@@ -246,15 +247,6 @@ def actions(run, words, folder):
 
 
 # ---- TLS
-
-
-def certificate(folder):
-    """A certificate for this machine that signs itself, and its key."""
-    pair = f"{folder}/cert.pem", f"{folder}/key.pem"
-    words = "openssl req -x509 -newkey rsa:2048 -nodes -days 2 -subj /CN=127.0.0.1".split()
-    words += ["-addext", "subjectAltName=IP:127.0.0.1", "-out", pair[0], "-keyout", pair[1]]
-    subprocess.run(words, stderr=subprocess.DEVNULL, check=True)
-    return pair
 
 
 def tls(run, words, folder):

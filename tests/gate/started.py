@@ -51,9 +51,8 @@ BUILDERS = sorted({*BUILDS, *(it for it in SCRIPTS if not it.startswith((*NEEDS_
 def put_stand_in(folder):
     os.makedirs(folder)
     for name, text in STAND_IN.items():
-        with open(f"{folder}/{name}", "w") as file:
-            file.write(f"#!/bin/sh\n{text}\n")
-        os.chmod(file.name, 0o755)
+        Path(f"{folder}/{name}").write_text(f"#!/bin/sh\n{text}\n")
+        os.chmod(f"{folder}/{name}", 0o755)
 
 
 class Copy:

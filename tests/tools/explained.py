@@ -5,6 +5,7 @@ import random
 import shutil
 import sqlite3
 import subprocess
+from pathlib import Path
 
 from nixkeep_dev.build.program import HERE
 from nixkeep_dev.model.worlds import World
@@ -78,8 +79,7 @@ def change_bytes(rng: random.Random, path: str) -> str:
     Texts of the list of tables stay: if they are damaged, nixkeep and SQLite may differ on what they make.
     """
     schema = schema_pages(path)
-    with open(path, "rb") as file:
-        data = bytearray(file.read())
+    data = bytearray(Path(path).read_bytes())
     page, edits = int.from_bytes(data[16:18], "big"), []
     others = [it - 1 for it in range(1, 1 + len(data) // page) if it not in schema]
     for _ in range(rng.choice([1, 1, 2, 5])):
@@ -89,6 +89,5 @@ def change_bytes(rng: random.Random, path: str) -> str:
         edits.append((at, data[at]))
     if rng.random() < 0.1:
         del data[rng.randrange(len(data)):]
-    with open(path, "wb") as file:
-        file.write(data)
+    Path(path).write_bytes(data)
     return f"bytes changed: {edits}, {len(data)} are left"

@@ -51,8 +51,7 @@ SYSTEM = "/usr/bin:/bin"
 
 
 def put_program(path: str, text: str) -> None:
-    with open(path, "w") as file:
-        file.write(text)
+    Path(path).write_text(text)
     os.chmod(path, 0o755)
 
 
@@ -76,8 +75,7 @@ class Repository:
 
     def write(self, path: str, text: str) -> None:
         Path(f"{self.top}/{path}").parent.mkdir(parents=True, exist_ok=True)
-        with open(f"{self.top}/{path}", "w") as file:
-            file.write(text)
+        Path(f"{self.top}/{path}").write_text(text)
 
     def start(self, *words: str, top: str | None = None, path: str | None = None,
               seconds: str = "") -> subprocess.Popen:

@@ -74,8 +74,7 @@ def listen(number, program, log):
 
 
 def of_process(pid, name):
-    with open(f"/proc/{pid}/{name}", "rb") as file:
-        return file.read()
+    return Path(f"/proc/{pid}/{name}").read_bytes()
 
 
 def strings(written):

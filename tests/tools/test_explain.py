@@ -206,8 +206,7 @@ sys.stdin.read()
 
 def is_locked(path):
     """Whether some process has a lock on a file."""
-    with open("/proc/locks", encoding="ascii") as file:
-        return f":{os.stat(path).st_ino} " in file.read()
+    return f":{os.stat(path).st_ino} " in Path("/proc/locks").read_text(encoding="ascii")
 
 
 @pytest.mark.parametrize("kind", ["LOCK_EX", "LOCK_SH"])
@@ -389,8 +388,7 @@ def test_a_damaged_log(nixkeep, folder, rng, many, logged):
         end = rng.choice([len(log), frame])
         del log[end:]
         shutil.copy(path, other)
-        with open(other + "-wal", "wb") as file:
-            file.write(log)
+        Path(other + "-wal").write_bytes(log)
         output, status, _ = explained(other)
         log_said = by_itself(other)
         assert Path(other + "-wal").read_bytes() == bytes(log)
@@ -414,8 +412,8 @@ def test_a_damaged_page_of_each_frame(folder, logged):
     for frame in range(32, 32 + 4120 * (len(whole) // 4120), 4120):
         if whole[frame + 8:frame + 16] == whole[16:24]:
             shutil.copy(path, other)
-            with open(other + "-wal", "wb") as file:
-                file.write(whole[:frame + 1000] + bytes([whole[frame + 1000] ^ 1]) + whole[frame + 1001:])
+            damaged = whole[:frame + 1000] + bytes([whole[frame + 1000] ^ 1]) + whole[frame + 1001:]
+            Path(other + "-wal").write_bytes(damaged)
             _, commits, objects = from_sqlite(folder, other)
             assert by_itself(other)[1] == commits, frame
             assert min(commits, 3) == 3 - objects, frame
@@ -437,8 +435,7 @@ def test_a_log_with_holes(more, logged):
 
 def from_sqlite(folder, path):
     """What has to be said of the log of a file, and its objects: SQLite says how many frames count."""
-    with open(path + "-wal", "rb") as file:
-        log = file.read()
+    log = Path(path + "-wal").read_bytes()
     copied = copy(path, f"{folder}/read.db")
     with contextlib.closing(sqlite3.connect(copied)) as conn:
         used = max(conn.execute("PRAGMA wal_checkpoint").fetchone()[1], 0)

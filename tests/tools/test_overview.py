@@ -21,6 +21,7 @@ from nixkeep_dev.testing import nar, report, stores
 from nixkeep_tools import overview, overview_source, store_file
 from parts import body
 from tests.tools import servers
+from tests.tools.remote import file_of
 
 pytestmark = pytest.mark.needs("python3-jinja2")
 COMMAND = f"{parts.ROOT}/tools/nixkeep-overview"
@@ -384,9 +385,7 @@ def test_a_collection(site):
 
 def test_a_drawing_that_fails(site, folder, monkeypatch):
     """Where `dot` fails, a page has the chain without the drawing."""
-    dot = Path(folder, "dot")
-    dot.write_text("#!/bin/sh\nexit 1\n")
-    dot.chmod(0o755)
+    file_of(folder, "dot", "#!/bin/sh\nexit 1\n", 0o755)
     site.cache.end()
     monkeypatch.setenv("PATH", f"{folder}:{os.environ['PATH']}")
     site.cache.start()

@@ -9,6 +9,7 @@ from pathlib import Path
 import pytest
 
 from tests.tools.packed import pack
+from tests.tools.remote import file_of
 
 pytestmark = pytest.mark.needs("dpkg-deb")
 # The folders of a machine that the scripts use, with those of a test, and the commands.
@@ -37,8 +38,7 @@ class Scripts:
             text = f'#!/bin/sh\necho "{name} $*" >>{self.log}\n'
             text += "[ $1 != list-units ] || echo nixkeep@red.service loaded active running\n" * (name == "systemctl")
             text += f"[ ! -e {room}/bad ]\n" * (name == "nixkeep-backup")
-            Path(f"{room}/bin/{name}").write_text(text)
-            os.chmod(f"{room}/bin/{name}", 0o755)
+            file_of(f"{room}/bin", name, text, 0o755)
 
     def run(self, name, *words):
         """The status of a script, what it printed, and what it had commands do."""

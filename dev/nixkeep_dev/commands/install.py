@@ -44,15 +44,13 @@ def copy(path, mode, fresh):
 def listed(prefix):
     """The places that the last installation wrote, or None where none has a list."""
     try:
-        with open(f"{prefix}/{LIST}", encoding="utf-8") as file:
-            return file.read().splitlines()
+        return Path(f"{prefix}/{LIST}").read_text(encoding="utf-8").splitlines()
     except FileNotFoundError:
         return None
 
 
 def write_list(fresh, places):
-    with open(fresh, "w", encoding="utf-8") as file:
-        file.writelines(f"{place}\n" for place in places)
+    Path(fresh).write_text("".join(f"{place}\n" for place in places), encoding="utf-8")
     os.chmod(fresh, 0o644)
 
 
