@@ -249,9 +249,9 @@ def cycle(one, other):
     return made
 
 
-@pytest.mark.parametrize("made, request, text", [
+@pytest.mark.parametrize("made, sent, text", [
     pytest.param(*it, id=f"{at} {' '.join(it[1][:3])}") for at, it in enumerate(worked())])
-def test_again(refusing, made, request, text):
+def test_again(refusing, made, sent, text):
     served = Served(refusing)
     served.where = {"REFUSE_FROM_INPUT": "1"}
     refusing.put("settings.toml", "")
@@ -260,7 +260,7 @@ def test_again(refusing, made, request, text):
         put(served.path, made.rows(), made_by(3))
     else:
         served.over(served.path, made)
-    once_more(served, request, text)
+    once_more(served, sent, text)
 
 
 def once_more(served, request, text):
