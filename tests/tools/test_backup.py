@@ -265,9 +265,9 @@ def test_a_log_of_a_copy_that_is_damaged(folder):
 
 @contextlib.contextmanager
 def at_work(words, is_begun, env=None):
-    """nixkeep-backup, once it has begun something. A shell starts what goes on in the background without SIGINT, so the
-    signal gets its effect back."""
-    words = ["env", "--default-signal=INT", BACKUP, *words]
+    """nixkeep-backup, once it has begun something. A shell starts what goes on in the background without SIGINT, and nohup
+    without SIGHUP, so the signals get their effects back."""
+    words = ["env", "--default-signal=INT,HUP", BACKUP, *words]
     with subprocess.Popen(words, stderr=subprocess.PIPE, text=True, env={**os.environ, **(env or {})}) as made:
         while made.poll() is None and not is_begun():
             time.sleep(0.05)
