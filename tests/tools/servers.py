@@ -5,6 +5,7 @@ import fcntl
 import http.client
 import os
 import pty
+import shlex
 import socket
 import ssl
 import struct
@@ -14,6 +15,7 @@ import termios
 import threading
 from collections.abc import Callable, Iterator
 from http.server import BaseHTTPRequestHandler, ThreadingHTTPServer
+from pathlib import Path
 from typing import IO, Any
 
 from tests.tools import shim
@@ -23,6 +25,19 @@ def ran(command: list[str], given: bytes = b"", **more: Any) -> tuple[int, bytes
     """The exit status of a command, and what it wrote to standard output and error."""
     done = subprocess.run(command, input=given, capture_output=True, timeout=600, **more)
     return done.returncode, done.stdout, done.stderr
+
+
+def limited(words: list[str], most: int) -> list[str]:
+    """A command that can write no file beyond `most` KiB, as where the disk is full."""
+    return ["bash", "-c", f'ulimit -f {most}; exec "$@"', "-", *words]
+
+
+def unstopped(program: str, folder: str) -> str:
+    """A program that goes on at such a limit, as on a full disk. (What starts one gives signals their effects back.)"""
+    made = Path(folder, "unstopped")
+    made.write_text(f"#!/bin/sh\ntrap '' XFSZ\nexec {shlex.quote(program)} \"$@\"\n")
+    made.chmod(0o755)
+    return str(made)
 
 
 @contextlib.contextmanager

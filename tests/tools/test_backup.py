@@ -25,8 +25,8 @@ import pytest
 from nixkeep_dev.build.program import HERE
 from nixkeep_dev.testing import stores
 from nixkeep_dev.testing.store import killed
-from nixkeep_tools import as_owner, backup_check, backup_fetch, backup_file, backup_folder, backup_restore, http_client
-from nixkeep_tools import objects, store_file, store_size
+from nixkeep_tools import as_owner, backup_check, backup_fetch, backup_file, backup_folder, backup_restore, disk_room
+from nixkeep_tools import http_client, objects, store_file, store_size
 from nixkeep_tools.failures import Stop
 from tests.tools import servers
 from tests.tools.servers import ran
@@ -58,8 +58,8 @@ esac
 
 def backup(*words, env=None, most=None):
     """Runs nixkeep-backup, which writes no file above `most` KiB."""
-    limited = ["bash", "-c", f'ulimit -f {most}; exec "$@"', "-"] if most else []
-    status, output, errors = ran([*limited, BACKUP, *words], env={**os.environ, **(env or {})})
+    command = servers.limited([BACKUP, *words], most) if most else [BACKUP, *words]
+    status, output, errors = ran(command, env={**os.environ, **(env or {})})
     return status, output.decode(), errors.decode()
 
 
@@ -234,12 +234,27 @@ def test_a_copy_leaves_room(store, monkeypatch):
     least = (os.stat(to).st_size + (64 << 20)) // 4096
     os.unlink(to)
     free[0] = least - 1
-    with pytest.raises(Stop, match=f"failed: room: .* has {4096 * free[0]} bytes left"):
+    with pytest.raises(Stop, match=f"failed: room: .* has {4096 * free[0]} bytes left, too few: {4096 * least} are"):
         backup_file.copy(store.file, to)
     os.unlink(to)
     free[0] = least
     backup_file.copy(store.file, to)
     assert backup_file.rows(to)[0] == 6
+
+
+@pytest.mark.parametrize("what", ["copy", "fetch", "before-migration"])
+def test_a_disk_that_fills_meanwhile(what, store, good):
+    """It is a line, no copy is half there, and with room the next one is made."""
+    of_schema_1(old := f"{store.folder}/old.db", bytes(100_000))
+    program = servers.unstopped(store.program, store.folder)
+    with servers.server(store.program, "--config", store.config, "--db", store.file) as port:
+        words = {"copy": ["--db", f"{store.to}/{store.copies()[0]}", "--to", store.to],
+                 "fetch": ["--server", f"http://127.0.0.1:{port}", "--to", store.to], "before-migration": ["--db", old]}
+        words = [what, "--config", store.config, "--program", program, *words[what]]
+        before = sorted(os.listdir(store.folder))
+        fails(backup(*words, most=48), "failed: (copy: .*disk|disk)", store, good)
+        assert sorted(os.listdir(store.folder)) == before
+        assert backup(*words)[0] == 0
 
 
 def test_a_folder_that_others_may_write(store, good):
@@ -539,8 +554,8 @@ def test_a_copy_through_a_server_leaves_room(store, monkeypatch):
     real, asked, left = os.statvfs, [], 64 << 20
     room = lambda free: types.SimpleNamespace(f_blocks=1, f_frsize=1, f_bavail=free)
     monkeypatch.setattr(os, "statvfs", lambda it: room(frees[len(asked)]) if it == store.to else real(it))
-    demand = backup_file.demand_room
-    monkeypatch.setattr(backup_file, "demand_room", lambda size, path: (demand(size, path), asked.append(size)))
+    demand = disk_room.demand
+    monkeypatch.setattr(disk_room, "demand", lambda size, path: (demand(size, path), asked.append(size)))
     with servers.server(store.program, "--config", store.config, "--db", store.file) as port:
         server = http_client.Server(http_client.Place(f"http://127.0.0.1:{port}"), {"store-user": "build"})
         source = objects.Store(server, "build", "/nix/store")
@@ -971,11 +986,11 @@ def test_a_restore_of_what_a_service_has_left(names, store, restored):
 # ---- copies before a migration
 
 
-def of_schema_1(file):
+def of_schema_1(file, text=b"old"):
     """A file of schema 1 with a text, whose path this is."""
     with contextlib.closing(sqlite3.connect(file)) as conn, conn:
         stores.put_tables(conn, 1)
-        return stores.put_text(conn, "old", b"old")
+        return stores.put_text(conn, "old", text)
 
 
 def test_a_copy_before_a_migration(program, folder):

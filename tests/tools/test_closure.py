@@ -11,6 +11,7 @@ import signal
 import subprocess
 import tempfile
 import time
+import types
 from pathlib import Path
 
 import pytest
@@ -267,6 +268,42 @@ def test_archives_above_16_mib(made):
     assert (status, output, sorted(errors.splitlines())) == (3, "", wanted)
     assert file.lines("list") == [], "nothing was sent of them"
     assert closure(nix, *file.options(nix), "push", fits) == (0, line_of("pushed", 1, LARGE, 0), "")
+
+
+def test_a_file_without_room(made, kept, monkeypatch, capfd):
+    """What has no room on its disk isn't begun, once what is unused inside the file is taken."""
+    file, _ = made.fresh()
+    free, real, place = [made.bytes - 1], os.statvfs, str(Path(file.path).parent)
+    seen = lambda it: types.SimpleNamespace(f_blocks=1, f_frsize=1, f_bavail=free[0]) if it == place else real(it)
+    monkeypatch.setattr(os, "statvfs", seen)
+    words = [CLOSURE, *kept.options(None), "copy", "--to", file.path, made.top]
+
+    def copied(*came):
+        assert (closure_command.main(words), *capfd.readouterr()) == came
+
+    line = f"failed: room: {place} has {free[0]} bytes left, too few: {made.bytes} are needed\n"
+    copied(1, "", line)
+    assert file("list") == file("roots") == b""
+    free[0] += 1
+    copied(0, line_of("copied", COUNT, made.bytes, 0), "")
+    free[0] = 0
+    copied(0, line_of("copied", 0, 0, COUNT), "")
+    file("gc")
+    copied(0, line_of("copied", COUNT, made.bytes, 0), "")
+
+
+@pytest.mark.parametrize("most", [0, 700])
+def test_a_disk_that_fills_meanwhile(most, made, kept):
+    """It is a line of why, and one of what was done. With room the same command goes on."""
+    file, _ = made.fresh()
+    words = [*kept.options(None), "--program", servers.unstopped(made.program, made.folder), "copy", "--to", file.path]
+    status, output, errors = ran(servers.limited([CLOSURE, *words, made.top], most))
+    first, *more = errors.decode().splitlines()
+    assert (status, output, len(more)) == (1, b"", int(most > 0))
+    sent = int(re.match(r"nixkeep-closure: (\d+) of 31 objects were sent", more[0])[1]) if more else 0
+    assert re.match("failed: disk" if more else "failed: program: .*No usable temporary directory", first)
+    status, output, errors = closure(None, *words, made.top)
+    assert (status, errors) == (0, "") and re.match(f"copied {COUNT - sent} objects.* {sent} w(as|ere) there$", output)
 
 
 def test_stores_that_are_not_those_that_are_meant(made):

@@ -91,7 +91,13 @@ def large(shared_folder):
 
 
 def ran(*words):
-    return subprocess.run([COMMAND, *words], capture_output=True, text=True)
+    return ran_in((), *words)
+
+
+def ran_in(limit, *words):
+    """Runs nixkeep-overview, which writes no file above so many KiB where there is a limit."""
+    command = [COMMAND, *map(str, words)]
+    return subprocess.run(servers.limited(command, *limit) if limit else command, capture_output=True, text=True)
 
 
 def test_10_000_objects_in_bounded_work_of_the_processor(large, folder):
@@ -120,6 +126,26 @@ def test_words_about_a_file(large):
 def test_what_cannot_be_read_has_one_line(words, line, large):
     came = ran(*[word or large[0] for word in words])
     assert came.returncode == 1 and line in came.stderr and came.stderr.count("\n") == 1
+
+
+def test_a_page_on_a_full_disk(folder):
+    """The page that was there stays whole, with its mode, also below a link; else there is none."""
+    stores.put_store(file := f"{folder}/store.db", 3, random.Random(1), 1, HOSTILE)
+    page, link = Path(folder, "page.html"), Path(folder, "link.html")
+    link.symlink_to(page)
+    before = sorted(os.listdir(folder))
+    written = lambda *limit: ran_in(limit, "--db", file, "--output", link)
+    for there in ({*before}, {*before, page.name}):
+        came = written(2)
+        assert came.returncode == 1 and "File too large" in came.stderr and came.stderr.count("\n") == 1
+        assert {*os.listdir(folder)} == there
+        assert written().returncode == 0 and link.is_symlink() and "</html>" in page.read_text()
+        page.write_text("before")
+        page.chmod(0o604)
+    assert written(2).returncode and page.read_text() == "before"
+    assert not written().returncode and page.stat().st_mode & 0o777 == 0o604
+    came = subprocess.run([COMMAND, "--db", file, "--output", "/dev/stdout"], capture_output=True, text=True)
+    assert came.stdout == page.read_text(), "and what is no file is written as it is"
 
 
 def test_8_000_roots_in_bounded_work_of_the_processor(folder):

@@ -300,6 +300,14 @@ def test_streams_that_are_too_large(words, given, line, port, client):
     assert client(None, *at, *words.split(), given=given()) == (3, b"", f"refused: {line}\n".encode())
 
 
+@pytest.mark.parametrize("most", [0, 2_000])
+def test_a_pipe_on_a_full_disk(most, port, client):
+    """What comes from a pipe is in a file for a while."""
+    words = [REMOTE, "--server", f"http://127.0.0.1:{port}", "--as", "root", "import"]
+    came = ran(servers.limited(words, most), bytes(3_000_000), env=client.env)
+    fails(came, "failed: temporary file: (File too large|No usable temporary directory.*)")
+
+
 # ---- cases
 
 

@@ -10,6 +10,7 @@ import random
 import shutil
 import sqlite3
 import subprocess
+import types
 from pathlib import Path
 
 import pytest
@@ -23,7 +24,9 @@ from nixkeep_dev.testing.nar import STORE, archive, derivation, hidden, sha256
 from nixkeep_dev.testing.tables import ALL, Built, put
 from nixkeep_tools import store_file
 from tests.tools.explained import EXPLAIN, change_bytes, explained, some_store
+from tests.tools import servers
 from tests.tools.servers import ran
+
 # ---- rescue
 
 
@@ -115,20 +118,32 @@ def test_a_rescue_into_a_folder_that_is_there(folder, path, name):
     assert not Path(folder, "elsewhere").exists(), "nothing is made through a link"
 
 
-@pytest.mark.parametrize("least, most", [(1, "objects"), (8, "store.toml"), (80, "restore")])
-def test_a_rescue_on_a_full_disk(least, most, folder):
-    """It is a line with the folder. A script that isn't whole has no name, since it would set some roots alone."""
+@pytest.mark.parametrize("most", [1, 8, 80])
+def test_a_rescue_on_a_full_disk(most, folder):
+    """It is a line with the folder, of which nothing is left: half of a script would set some roots alone."""
     built, path, out = Built(), f"{folder}/many.db", f"{folder}/out"
     base = built.put_source("object", archive(bytes(3000)), [])
     built.world.permanent.update({f"root-number-{at}": base for at in range(300)})
     put(path, built.rows(), ALL)
-    words = ["bash", "-c", f'ulimit -f {least}; exec "$@"', "-", EXPLAIN, "--rescue", out, path]
-    status, _, errors = ran(words)
-    if most == "restore":
+    status, _, errors = ran(servers.limited([EXPLAIN, "--rescue", out, path], most))
+    if most == 80:
         assert (status, errors) == (0, b"") and Path(out, "restore").read_text().count("root-number-") == 300
     else:
-        assert (status, errors.decode()) == (1, f"failed: File too large: {out}\n")
-    assert Path(out, "restore").exists() == (most == "restore") and Path(out, most).exists()
+        assert (status, errors.decode(), Path(out).exists()) == (1, f"failed: File too large: {out}\n", False)
+
+
+def test_a_rescue_leaves_room(folder, path, monkeypatch):
+    """Objects that have no room aren't begun: 64 MB are left, as of a copy."""
+    with store_file.open_store(path) as conn:
+        total = sum(it.size for it in store_file.read_objects(conn).values())
+    free, real, out = [0], os.statvfs, f"{folder}/out"
+    seen = lambda it: types.SimpleNamespace(f_blocks=1, f_frsize=1, f_bavail=free[0]) if it == folder else real(it)
+    monkeypatch.setattr(os, "statvfs", seen)
+    least = total + (64 << 20)
+    for free[0], wanted in ((least - 1, 1), (least, 0)):
+        _, status, errors = explained("--rescue", out, path)
+        line = f"failed: room: {folder} has {free[0]} bytes left, too few: {least} are needed\n" if wanted else ""
+        assert (status, errors, Path(out).exists()) == (wanted, line, not wanted)
 
 
 def test_what_a_terminal_obeys(folder):

@@ -13,7 +13,7 @@ import re
 import tempfile
 from collections.abc import Iterable
 
-from . import backup_file, closures, nar, objects, paths, pointers
+from . import backup_file, closures, disk_room, nar, objects, paths, pointers
 from .failures import DENIED, Stop
 from .progress import Progress
 
@@ -144,7 +144,7 @@ class Fetch:
         if archive is None or paths.sha256([archive]) != record.nar_hash:
             return False
         # (each time: others may fill the disk meanwhile, and a server may list less than it has)
-        backup_file.demand_room(record.nar_size, self.file)
+        disk_room.demand(record.nar_size, self.file)
         pairs = [("path", record.base), ("nar-hash", paths.nar_hash(record.nar_hash))]
         pairs += [("reference", it) for it in record.refs]
         pairs += [(key, it) for key, it in (("deriver", record.deriver), ("ca", record.ca)) if it]
@@ -207,7 +207,7 @@ class Fetch:
         for number in range(1, PASSES + 1):
             before = listed(self.source)
             if number == 1 and (total := backup_file.TOTAL.search(before.report)):
-                backup_file.demand_room(int(total[2]), self.file)
+                disk_room.demand(int(total[2]), self.file)
             large = map(pointers.read_line, before.pointers.splitlines())
             self.pointers = {it.path.rpartition("/")[2]: it for it in large}
             self.copy_objects([it.rpartition("/")[2] for it in before.paths.splitlines()], have)

@@ -10,14 +10,12 @@ import tomllib
 from collections.abc import Iterable
 from pathlib import Path
 
-from . import backup_folder, objects, paths, store_file
+from . import backup_folder, disk_room, objects, paths, store_file
 from .count_of import count_of
 from .failures import REFUSED, Stop, reason
 
 HERE = Path(__file__).resolve().parents[1]
 PAGES = 1_000
-# The bytes that a copy leaves of its disk, which may be that of the store: docs/OPERATING.md, A full disk.
-LEFT = 64 << 20
 TOTAL = re.compile(r"^total +(\d{1,18}) +(\d{1,18})$", re.A | re.M)
 
 
@@ -74,27 +72,12 @@ def open_copy(path):
     return sqlite3.connect(f"file:{store_file.quoted(path)}?mode=rw", uri=True, isolation_level=None)
 
 
-def demand_room(size: int, path: str) -> None:
-    """Raises Stop where a copy of this size would leave too little room for a store to go on."""
-    folder = os.path.dirname(os.path.abspath(path))
-    seen = os.statvfs(folder)
-    # (some file systems don't say how large they are)
-    if seen.f_blocks and (free := seen.f_bavail * seen.f_frsize) < size + LEFT:
-        raise Stop(f"failed: room: {folder} has {free} bytes left, too few for a copy of {size} bytes")
-
-
-def size_of(conn):
-    """The bytes of the file of a connection."""
-    pages, size = (conn.execute(f"PRAGMA {it}").fetchone()[0] for it in ("page_count", "page_size"))
-    return pages * size
-
-
 def copy(path: str, to: str) -> None:
     """Copies a store file with the changes in its log into one new file. It never writes or makes the store's own."""
     try:
         create(to)
         with store_file.open_store(path) as conn, contextlib.closing(open_copy(to)) as target:
-            demand_room(size_of(conn), to)
+            disk_room.demand(store_file.bytes_of(conn, "page_count"), to)
             # (between two parts a signal is seen, such as that of the time limit)
             conn.backup(target, pages=PAGES, progress=lambda *_: None)
     except FileNotFoundError:

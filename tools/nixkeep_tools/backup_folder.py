@@ -9,7 +9,7 @@ import stat
 import time
 from collections.abc import Callable, Iterable, Iterator
 
-from . import store_file
+from . import store_file, whole_file
 from .failures import Stop, reason
 
 FORM = "%Y-%m-%dT%H-%M-%SZ.db"
@@ -127,10 +127,4 @@ def read_state(path: str) -> dict:
 
 def write_state(path: str, **more: str | float) -> None:
     """Puts what a run did into the file that others watch, whole or not at all; what it doesn't name stays."""
-    text = json.dumps({**read_state(path), **more}, indent=2)
-    fresh = f"{path}.new"
-    with contextlib.suppress(FileNotFoundError):
-        os.unlink(fresh)
-    with open(os.open(fresh, os.O_WRONLY | os.O_CREAT | os.O_EXCL, 0o644), "w", encoding="utf-8") as file:
-        file.write(f"{text}\n")
-    os.rename(fresh, path)
+    whole_file.write(path, f"{json.dumps({**read_state(path), **more}, indent=2)}\n", 0o644)

@@ -9,7 +9,7 @@ import time
 from collections.abc import Callable
 from typing import BinaryIO
 
-from . import backup_file, backup_units, explain_file, stopping, store_file
+from . import backup_file, backup_units, disk_room, explain_file, stopping, store_file
 from .count_of import count_of
 from .failures import Stop, reason
 
@@ -182,7 +182,7 @@ def put(copy: str, folder: str, test: Callable[[str], object] = lambda _: None,
     """
     try:
         with open_copy(copy) as source, opened(folder) as here, made_aside(here) as (name, aside):
-            backup_file.demand_room(os.fstat(source.fileno()).st_size, f"{folder}/{FRESH}")
+            disk_room.demand(os.fstat(source.fileno()).st_size, f"{folder}/{FRESH}")
             fill(aside, source, os.fstat(here))
             test(f"{folder}/{name}/{FRESH}")
             with stopped():

@@ -2,9 +2,9 @@
 import collections
 import contextlib
 import json
-import os
 import time
 
+from . import whole_file
 from .cache_http import READ
 from .cache_watching import Seen
 
@@ -72,10 +72,7 @@ class Day:
     def save(self) -> None:
         """Writes the file, whole or not at all. What can't be written is lost at a restart."""
         with contextlib.suppress(OSError):
-            with open(f"{self.file}.new", "w", encoding="ascii",
-                      opener=lambda name, flags: os.open(name, flags, 0o600)) as out:
-                json.dump(self.parts, out)
-            os.rename(f"{self.file}.new", self.file)
+            whole_file.write(self.file, json.dumps(self.parts), 0o600)
 
     def spans(self) -> list[dict]:
         """The parts of the whole day, also those without a request, the oldest first."""

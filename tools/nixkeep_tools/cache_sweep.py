@@ -8,7 +8,7 @@ from collections.abc import AsyncIterator
 
 from aiohttp import web
 
-from . import paths
+from . import paths, whole_file
 from .backup_restore import ASIDE
 from .blobs import Blob, Failed
 from .cache_blobs import Blobs, abort, say
@@ -118,9 +118,7 @@ class Sweep:
         """Remembers a sweep that has left so much. What can't be written is lost at a restart."""
         self.last, self.left = time.time(), (count, size)
         with contextlib.suppress(OSError):
-            with open(f"{self.file}.new", "w", opener=lambda name, flags: os.open(name, flags, 0o600)) as out:
-                json.dump([self.last, *self.left], out)
-            os.rename(f"{self.file}.new", self.file)
+            whole_file.write(self.file, json.dumps([self.last, *self.left]), 0o600)
 
     async def delete(self, caller: Caller, blob: Blob, before: float, listed: set[str]) -> bool:
         """Deletes a blob unless something names it or relies on it by now. Returns whether it did."""

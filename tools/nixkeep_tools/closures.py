@@ -85,6 +85,7 @@ class Transfer:
         there = self.held(self.target.valid(self.records))
         self.missing = [base for base in references_first(self.records) if base not in there]
         self.refuse_untrusted()
+        self.refuse_full()
 
     def refuse_large(self):
         large = [it for it in self.records.values() if is_large(it)]
@@ -127,6 +128,17 @@ class Transfer:
         if unproved:
             raise Refused("\n".join(f"denied: trusted-import {self.target.full(it.base)}" for it in unproved), DENIED)
 
+    def refuse_full(self):
+        """Raises Refused where what is missing has no room on the disk of the target."""
+        try:
+            self.target.demand_room(self.size())
+        except Stop as stop:
+            raise Refused(stop.line, stop.status) from None
+
+    def size(self) -> int:
+        """The bytes of the archives that are missing."""
+        return sum(self.records[it].nar_size for it in self.missing)
+
     def archive(self, record: objects.Record) -> bytes:
         """The archive of an object, tested by its record."""
         data = self.source.archive(record)
@@ -155,8 +167,7 @@ class Transfer:
 
     def send(self) -> Done:
         """Sends what is missing, and returns what was done."""
-        self.is_sending = True
-        total = sum(self.records[it].nar_size for it in self.missing)
+        self.is_sending, total = True, self.size()
         there, progress = len(self.records) - len(self.missing), Progress(self.what, total, len(self.missing))
         try:
             for base in self.missing:

@@ -10,6 +10,7 @@ from . import explain_file, explain_log, explain_rescue, explain_usage, paths, s
 from .count_of import count_of
 from .explain_schema import DAMAGED, shown
 from .explain_verdict import BAD_SCHEMA, Examined
+from .failures import Stop
 
 BAD_CONFIG = "19 bad-config"
 SOUND, FAILED, _, REFUSED = range(4)
@@ -91,6 +92,8 @@ def print_rescue(folder, file, examined):
         rescued = explain_rescue.rescue(folder, file, examined)
     except OSError as error:
         raise Stopped(f"failed: {error.strerror}: {error.filename or folder}", FAILED) from None
+    except Stop as stop:
+        raise Stopped(stop.line, FAILED) from None
     what = f"{count_of(rescued.objects, 'object')}, {count_of(rescued.roots, 'root')}"
     say(f"{folder}: {what}; sh {folder}/restore NEW.db makes a store of them")
     for what, why in rescued.left_out:

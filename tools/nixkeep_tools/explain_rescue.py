@@ -1,10 +1,12 @@
 """Writes what is sound in a file to a folder: each object as a body for `nixkeep import`, and the roots as commands."""
 import collections
+import contextlib
 import heapq
 import os
 import shlex
+import shutil
 
-from . import paths
+from . import disk_room, paths
 from .explain_rows import HASH
 from .explain_schema import shown
 from .explain_verdict import Examined
@@ -171,25 +173,38 @@ def kept_roots(rows, faults, kept):
 # ---- the folder
 
 
+@contextlib.contextmanager
+def made(folder):
+    """A new folder, which its owner alone may read. It is gone if what is done here fails."""
+    os.mkdir(folder, 0o700)
+    try:
+        yield
+    except BaseException:
+        shutil.rmtree(folder, ignore_errors=True)
+        raise
+
+
 def rescue(folder: str, file: str, examined: Examined) -> Rescued:
     """Writes what is sound to a new folder, which its owner alone may read, and returns what was Rescued.
 
-    Raises OSError if something is there, such as a folder or a link, or the folder can't be written.
+    Raises OSError if something is there, such as a folder or a link, or the folder can't be written, and Stop if the
+    disk has no room for the objects. Then there is no such folder.
     """
-    os.mkdir(folder, 0o700)
     rows, objects, faults, store = examined.rows, examined.objects, examined.row_faults, examined.store_dir
     imported, left_out = in_order(objects, bad_objects(objects, faults, rows.partial))
     roots, left_roots = kept_roots(rows, faults, set(imported))
-    write_imports(folder, imported, objects, store)
-    with open(f"{folder}/store.toml", "x") as out:
-        out.write(f'store-dir = "{store}"\n')
-    # (a disk may fill: the script has its name once it is whole)
-    with open(f"{folder}/restore.new", "x") as out:
-        # (no file name ends the comment that it is in)
-        out.write(SCRIPT.format(file=ascii(file), count=len(imported)))
-        out.writelines(it + "\n" for it in ["", "# The roots, each set by its owner.", *root_commands(roots, store)])
-    os.chmod(f"{folder}/restore.new", 0o700)
-    os.rename(f"{folder}/restore.new", f"{folder}/restore")
+    with made(folder):
+        disk_room.demand(sum(objects.checked[it].size for it in imported), folder)
+        write_imports(folder, imported, objects, store)
+        with open(f"{folder}/store.toml", "x") as out:
+            out.write(f'store-dir = "{store}"\n')
+        # (a machine may stop: the script has its name once it is whole)
+        with open(f"{folder}/restore.new", "x") as out:
+            # (no file name ends the comment that it is in)
+            out.write(SCRIPT.format(file=ascii(file), count=len(imported)))
+            out.writelines(f"{it}\n" for it in ["", "# The roots, each set by its owner.", *root_commands(roots, store)])
+        os.chmod(f"{folder}/restore.new", 0o700)
+        os.rename(f"{folder}/restore.new", f"{folder}/restore")
     count = sum(len(of_table) for table, of_table in roots.items() if table != "profile")
     lost = [(shown("object", (it,)), why) for it, why in sorted(left_out.items())]
     return Rescued(len(imported), count, [*lost, *left_roots])

@@ -91,10 +91,11 @@ class Child:
     """A process `nixkeep serve` on a database file, over a pair of sockets."""
 
     def __init__(self, program: str, file: str, config: str | None):
-        ours, theirs = socket.socketpair()
-        self.errors, self.socket = tempfile.TemporaryFile(), ours
+        self.socket, theirs = socket.socketpair()
         words = [program, "--db", file, *(["--config", config] if config else []), "serve"]
         try:
+            # (a full disk has no room for this file)
+            self.errors = tempfile.TemporaryFile()
             self.process = subprocess.Popen(words, stdin=theirs, stdout=theirs, stderr=self.errors)
         except OSError as error:
             raise Stop(f"failed: program: {program}: {error.strerror}") from None
@@ -231,6 +232,20 @@ class Store:
     def takes_large(self) -> bool:
         """Whether archives of any size may be put here."""
         return self.server.takes_large()
+
+    def demand_room(self, size: int) -> None:
+        """Raises Stop where the disk of a database file has no room for so many bytes of archives. They first take what
+        is unused inside the file. (Of a server's disk nothing is known.)"""
+        if not self.child:
+            return
+        # (no command but those on a file needs SQLite)
+        from . import disk_room, store_file
+
+        file = self.server.place.url
+        with store_file.open_store(file, despite_lock=True) as conn:
+            size -= store_file.bytes_of(conn, "freelist_count")
+        if size > 0:
+            disk_room.demand(size, os.path.realpath(file), 0)
 
     # ---- what is put there
 

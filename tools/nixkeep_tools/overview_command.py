@@ -1,10 +1,11 @@
 """The command nixkeep-overview."""
 import argparse
 import asyncio
+import os
 import sqlite3
 import sys
 
-from . import cache_server, overview_page, overview_source, paths, store_file, version
+from . import cache_server, overview_page, overview_source, paths, store_file, version, whole_file
 from .overview import Overview
 
 
@@ -49,6 +50,16 @@ def made(said):
     return asyncio.run(of_server(said.store, cache_server.Caller(said.user, said.group), keeps))
 
 
+def put(output, text):
+    """Writes the page to a file, whole or not at all, or to what is there and is none, such as a pipe."""
+    if os.path.exists(output) and not os.path.isfile(output):
+        with open(output, "w", encoding="utf-8") as out:
+            out.write(text)
+    else:
+        # (so a link to a page stays)
+        whole_file.write(os.path.realpath(output), text, 0o666)
+
+
 def main(words: list[str] | None = None) -> None:
     top = parser()
     said = top.parse_args(words)
@@ -59,8 +70,7 @@ def main(words: list[str] | None = None) -> None:
         name = said.name or overview_source.name_of(said.config, said.db)
         text = overview_page.page(overview, name, why=said.why and paths.base_name(said.why, overview.store.store_dir))
         if said.output:
-            with open(said.output, "w", encoding="utf-8") as out:
-                out.write(text)
+            put(said.output, text)
         else:
             print(text)
     except (OSError, sqlite3.Error, ValueError, KeyError) as error:

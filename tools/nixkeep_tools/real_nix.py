@@ -43,8 +43,9 @@ class Nix:
     def __init__(self, store: str | None, folder: str):
         self.folder, self.store = folder, store
         self.options = ["--store", store] if store else []
-        self.errors = tempfile.TemporaryFile()
         try:
+            # (a full disk has no room for this file)
+            self.errors = tempfile.TemporaryFile()
             pipe, words = subprocess.PIPE, ["nix-store", *self.options, "--serve", "--write"]
             self.process = subprocess.Popen(words, stdin=pipe, stdout=pipe, stderr=self.errors)
         except OSError as error:
@@ -143,6 +144,9 @@ class Nix:
     def takes_large(self) -> bool:
         """Whether archives of any size may be put here."""
         return True
+
+    def demand_room(self, size: int) -> None:
+        """Nix says itself where its disk is full."""
 
     # ---- what is put there
 

@@ -198,6 +198,12 @@ def connect(path):
     return conn
 
 
+def bytes_of(conn: sqlite3.Connection, pages: str) -> int:
+    """The bytes of the pages of a connection's file: of all (`page_count`) or of the unused ones (`freelist_count`)."""
+    count, size = (conn.execute(f"PRAGMA {it}").fetchone()[0] for it in (pages, "page_size"))
+    return count * size
+
+
 @contextlib.contextmanager
 def open_store(path: str, despite_lock: bool = False) -> Iterator[sqlite3.Connection]:
     """A connection as from `connect`, under a lock that keeps others from writing. Raises Locked if one has the file.

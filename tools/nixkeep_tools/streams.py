@@ -5,7 +5,7 @@ import io
 import os
 import stat
 
-from .failures import Stop
+from .failures import Stop, reason
 
 # (for hints alone: see `http_connection`)
 TYPE_CHECKING = False
@@ -101,24 +101,28 @@ class Input:
             self.first = read(min(CHUNK, self.length)) if self.length else b""
             return
         self.length, self.file = 0, io.BytesIO()
-        for part in received(most):
-            self.length += len(part)
-            if self.length > IN_MEMORY:
-                self.keep_in_file()
-            self.file.write(part)
-        self.file.seek(0)
+        self.take(most)
 
     def extend(self) -> None:
         """Takes the rest of standard input, too."""
         if self.is_file:
             self.length = len(self.first) + (_left_in_file() or 0)
             return
-        self.keep_in_file()
         self.file.seek(0, io.SEEK_END)
-        for part in received():
-            self.length += len(part)
-            self.file.write(part)
-        self.file.seek(0)
+        self.take()
+
+    def take(self, most: int | None = None) -> None:
+        """Takes bytes of a pipe, at most `most` of them."""
+        try:
+            for part in received(most):
+                self.length += len(part)
+                if self.length > IN_MEMORY:
+                    self.keep_in_file()
+                self.file.write(part)
+            self.file.seek(0)
+        except OSError as error:
+            # The disk is full.
+            raise Stop(f"failed: temporary file: {reason(error)}") from None
 
     def keep_in_file(self):
         if isinstance(self.file, io.BytesIO):

@@ -1,0 +1,17 @@
+"""Room on a disk, which is looked for before bytes are written whose number is known."""
+import os
+
+from .failures import Stop
+
+# The bytes that are left of a disk, which may be that of a store: docs/OPERATING.md, A full disk.
+LEFT = 64 << 20
+
+
+def demand(size: int, path: str, left: int = LEFT) -> None:
+    """Raises Stop where a disk has no room for so many bytes at a path, or fewer than `left` would be left then: too
+    few for a store to go on."""
+    folder = os.path.dirname(os.path.abspath(path))
+    seen = os.statvfs(folder)
+    # (some file systems don't say how large they are)
+    if seen.f_blocks and (free := seen.f_bavail * seen.f_frsize) < size + left:
+        raise Stop(f"failed: room: {folder} has {free} bytes left, too few: {size + left} are needed")
