@@ -4,7 +4,6 @@ import os
 import re
 import shutil
 import subprocess
-import time
 from pathlib import Path
 from typing import Any
 
@@ -15,16 +14,17 @@ DEBIANS = "/etc/fail2ban"
 # (of the firewall of this machine nothing is changed)
 ALONE = ["unshare", "--net", *([] if os.geteuid() == 0 else ["--map-root-user"])]
 # Starts fail2ban, writes lines to the log, waits for the bans that they cause, and prints the rules of the firewall.
-LINES = """fail2ban-server -c conf -s "$PWD/socket" -p "$PWD/pid" --logtarget "$PWD/said" -b start || exit 1
-cat lines >>nixkeep.log
-for _ in $(seq 200); do
+LINES = """set -- -c conf -s "$PWD/socket"
+fail2ban-server "$@" -p "$PWD/pid" --logtarget "$PWD/said" --timeout 300 -b start || exit 1
+sed "s/@now@/$(date -u +%Y-%m-%dT%H:%M:%S+00:00)/" lines >>nixkeep.log
+for _ in $(seq 1000); do
   rules=$(nft list ruleset)
   case $rules in *10.9.8.7*fd09:0:0:7::*) break ;; esac
   sleep 0.3
 done
 echo "$rules"
 ip link set lo up && python3 -c "$CONNECTING"
-fail2ban-client -c conf -s "$PWD/socket" stop >/dev/null"""
+fail2ban-client "$@" stop >/dev/null"""
 # Connects to a server from three addresses, the first two of a network that is blocked, and prints which are answered.
 CONNECTING = """import socket, subprocess
 with socket.create_server(("::1", 443), family=socket.AF_INET6):
@@ -60,8 +60,7 @@ def banned(site: Any, line: str) -> None:
     Path(f"{folder}/conf/jail.d/nixkeep.conf").write_text(jail.replace("/var/log/nginx", folder))
     Path(f"{folder}/conf/fail2ban.local").write_text("[Definition]\ndbfile = None\n")
     Path(f"{folder}/nixkeep.log").touch()
-    now = time.strftime("%Y-%m-%dT%H:%M:%S+00:00", time.gmtime())
-    line = re.sub(r'"time":"[^"]*"', f'"time":"{now}"', line)
+    line = re.sub(r'"time":"[^"]*"', '"time":"@now@"', line)
     came = [("10.9.8.7", 10), ("fd09:0:0:7::", 10), ("10.9.8.6", 9), ("fd09:0:0:8::", 9)]
     text = "".join(re.sub(r'"network":"[^"]*"', f'"network":"{it}"', line) * count for it, count in came)
     Path(f"{folder}/lines").write_text(text)

@@ -1,12 +1,15 @@
 """What `try` tests of a store's entry: TLS, health without a login, figures for who may have them, the record of
 changes."""
 import base64
+import contextlib
 import re
 import shlex
 import socket
 import ssl
 import subprocess
+import threading
 import time
+from collections.abc import Iterator
 from concurrent.futures import ThreadPoolExecutor
 from pathlib import Path
 from typing import Any
@@ -14,6 +17,20 @@ from typing import Any
 import by_nix
 import parts
 from parts import body, check, same
+
+
+def connected(site: Any, name: str = "red.localhost") -> ssl.SSLSocket:
+    """A connection to nginx by TLS. Nginx waits ten seconds for a client, and a loaded machine may take longer, so that
+    is tried again."""
+    trusted = ssl.create_default_context(cafile=f"{site.etc}/tls/ca.pem")
+    for left in reversed(range(30)):
+        plain = socket.create_connection(("127.0.0.1", site.port))
+        try:
+            return trusted.wrap_socket(plain, server_hostname=name)
+        except OSError:
+            plain.close()
+            if not left:
+                raise
 
 
 def tls(site: Any) -> None:
@@ -39,8 +56,13 @@ def tls(site: Any) -> None:
 def watched(site: Any) -> None:
     """Health without a login, and nothing else there; figures for the user `prometheus` alone, who has a password."""
     nobody, monitor, ann = site.user(None), site.user("prometheus"), site.user("ann")
-    well = b'{"store": "answers", "blobs": "answers"}\n'
-    same("health without a login", nobody("GET", "/health"), (200, well))
+    well = 200, b'{"store": "answers", "blobs": "answers"}\n'
+    for _ in range(60):
+        if (seen := nobody("GET", "/health")) == well:
+            break
+        # (a store that takes ten seconds, as on a loaded machine, doesn't answer)
+        time.sleep(2)
+    same("health without a login", seen, well)
     for method, target, given in [("POST", "/health", b""), ("PUT", "/health", b"x"), ("GET", "/health", bytes(1000)),
                                   ("GET", "/health/", None), ("GET", "/health?x", None), ("GET", "/%68ealth/x", None)]:
         status = nobody(method, target, given)[0]
@@ -54,31 +76,48 @@ def watched(site: Any) -> None:
     words = [*ann.words, "-o", "/dev/null", "-D", "-", f"{ann.url}/nix-cache-info"]
     head = parts.curl(*words)[1]
     check("a browser takes nothing for a page that isn't one", b"x-content-type-options: nosniff" in head, head)
-    changed = site.servers["red"].records()[-1]
     path = ann.add("recorded", b"x")
-    parts.until("a record", lambda: site.servers["red"].records()[-1] != changed)
-    changed = site.servers["red"].records()[-1]
-    same("a change has its user, by the certificate or the password", (changed["user"], changed["paths"]),
-         ("ann", [path[11:]]))
+    # (a record is written after its reply, so those of earlier requests may come first)
+    named = lambda: [(it["user"], it["paths"]) for it in site.servers["red"].records() if path[11:] in it["paths"]]
+    parts.until("a record", named)
+    same("a change has its user, by the certificate or the password", named(), [("ann", [path[11:]])])
     lines = b"".join(b"path: %s\n" % (b"\xff" * 290) for _ in range(100)) + b"path: %s\n" % path.encode() * 2
     same("a request that does nothing", ann("POST", "/text", lines + b"\n")[0], 400)
-    parts.until("its record", lambda: site.servers["red"].records()[-1]["status"] == 400, 30)
+    parts.until("its record", lambda: site.servers["red"].records()[-1]["status"] == 400)
     changed = site.servers["red"].records()[-1]
     same("has a short record, with what is a path alone", changed["paths"], [path[11:]])
 
 
+@contextlib.contextmanager
+def slowly(held: list[ssl.SSLSocket]) -> Iterator[None]:
+    """One byte more comes by each connection every five seconds, however long what is done here takes: nginx waits
+    thirty seconds for the next one."""
+    stop = threading.Event()
+
+    def send():
+        while not stop.wait(5):
+            for it in held:
+                with contextlib.suppress(OSError):
+                    it.send(b"p")
+
+    with ThreadPoolExecutor(1) as pool:
+        pool.submit(send)
+        try:
+            yield
+        finally:
+            stop.set()
+
+
 def slow_imports(site: Any) -> None:
     """Imports whose bodies don't come hold up nobody else."""
-    trusted, ann = ssl.create_default_context(cafile=f"{site.etc}/tls/ca.pem"), site.user("ann")
-    login = base64.b64encode(b"bob:bob-secret").decode()
+    ann, login = site.user("ann"), base64.b64encode(b"bob:bob-secret").decode()
     head = f"POST /import HTTP/1.1\r\nhost: red.localhost\r\nauthorization: Basic {login}\r\n"
-    held = []
-    for _ in range(20):
-        plain = socket.create_connection(("127.0.0.1", site.port))
-        held.append(trusted.wrap_socket(plain, server_hostname="red.localhost"))
-        held[-1].sendall(f"{head}content-length: 20971520\r\n\r\np".encode())
-    path = ann.add("meanwhile", bytes(100_000))
-    found = [ann("GET", it)[0] for it in ("/paths", f"/nar/{path[11:]}", "/roots")]
+    held = [connected(site) for _ in range(20)]
+    for it in held:
+        it.sendall(f"{head}content-length: 20971520\r\n\r\np".encode())
+    with slowly(held):
+        path = ann.add("meanwhile", bytes(100_000))
+        found = [ann("GET", it)[0] for it in ("/paths", f"/nar/{path[11:]}", "/roots")]
     same("while the imports of another user don't come, all is answered", found, [200] * 3)
     waiting = 0
     for it in held:
@@ -94,26 +133,23 @@ def slow_imports(site: Any) -> None:
 def slow_uploads(site: Any) -> None:
     """While eight large uploads of a user come slowly for longer than a minute, one of another user is done, and one
     more of the first user waits."""
-    trusted, build = ssl.create_default_context(cafile=f"{site.etc}/tls/ca.pem"), site.user("build")
-    login = base64.b64encode(b"build:build-secret").decode()
-    archive, held = by_nix.archive(bytes(200_000)), []
-    name = by_nix.digest(archive)
+    build, login = site.user("build"), base64.b64encode(b"build:build-secret").decode()
+    archive, more = by_nix.archive(bytes(200_000)), by_nix.archive(b"more" * 5_000_000)
+    name, of_more = by_nix.digest(archive), by_nix.digest(more)
     head = f"PUT /nar/{name}.nar HTTP/1.1\r\nhost: red.localhost\r\nauthorization: Basic {login}\r\n"
-    for _ in range(8):
-        plain = socket.create_connection(("127.0.0.1", site.port))
-        held.append(trusted.wrap_socket(plain, server_hostname="red.localhost"))
-        held[-1].sendall(f"{head}content-length: {len(archive)}\r\n\r\n".encode() + archive[:1000])
-    more = by_nix.archive(b"more" * 5_000_000)
-    put = lambda: build("PUT", f"/nar/{by_nix.digest(more)}.nar", more)[0]
+    held = [connected(site) for _ in range(8)]
+    for it in held:
+        it.sendall(f"{head}content-length: {len(archive)}\r\n\r\n".encode() + archive[:1000])
     with ThreadPoolExecutor(1) as pool:
-        ninth = pool.submit(put)
-        for at in range(4):
-            time.sleep(18)
+        ninth = pool.submit(lambda: build("PUT", f"/nar/{of_more}.nar", more)[0])
+        # (nginx waits thirty seconds for the next byte)
+        for at in range(1000, 1024):
+            time.sleep(3)
             for it in held:
-                it.sendall(archive[1000 + at : 1001 + at])
+                it.sendall(archive[at : at + 1])
         check("one more upload waits", not ninth.done())
         for it in held:
-            it.sendall(archive[1004:])
+            it.sendall(archive[1024:])
         same("and is done once the others are", ninth.result(), 201)
     same("these are done, too", {it.recv(12) for it in held}, {b"HTTP/1.1 201"})
     for it in held:
@@ -147,17 +183,16 @@ def subjects(site: Any) -> None:
 def half_asked(site: Any) -> None:
     """Who sends no request, or half of one, loses the connection after ten seconds, also within TLS, and after a
     request that was answered."""
-    trusted = ssl.create_default_context(cafile=f"{site.etc}/tls/ca.pem")
-
     def closed(sent, is_encrypted, ahead=b""):
-        with socket.create_connection(("127.0.0.1", site.port)) as plain:
-            made = trusted.wrap_socket(plain, server_hostname="red.localhost") if is_encrypted else plain
-            made.settimeout(30)
-            if ahead:
-                made.sendall(ahead)
-                made.recv(65_536)
-            made.sendall(sent)
+        with connected(site) if is_encrypted else socket.create_connection(("127.0.0.1", site.port)) as made:
+            # (a loaded machine may close it later)
+            made.settimeout(300)
             try:
+                if ahead:
+                    made.sendall(ahead)
+                    while not made.recv(65_536).endswith(b"\r\n\r\n"):
+                        pass
+                made.sendall(sent)
                 return made.recv(1)
             except OSError as error:
                 return error

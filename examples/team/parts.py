@@ -96,9 +96,16 @@ def place_of(tool: str) -> str | bool | None:
     return shutil.which(tool) or shutil.which(tool, path="/usr/sbin")
 
 
+# Sockets that have a port and don't listen, so that nobody else gets it, and the program that it is for may listen there.
+RESERVED = []
+
+
 def free_port() -> int:
-    with socket.create_server(("127.0.0.1", 0)) as listener:
-        return listener.getsockname()[1]
+    """A port that is nobody else's until this process ends, also while the program at it is started."""
+    RESERVED.append(socket.socket())
+    RESERVED[-1].setsockopt(socket.SOL_SOCKET, socket.SO_REUSEADDR, 1)
+    RESERVED[-1].bind(("127.0.0.1", 0))
+    return RESERVED[-1].getsockname()[1]
 
 
 def until(what: str, is_so: Callable, seconds: float = 300) -> None:
@@ -138,13 +145,17 @@ class Part:
             self.running.wait()
             self.running = None
 
+    def logged(self) -> list[str]:
+        """The lines of its log. (One of which a part is written so far isn't there yet.)"""
+        return [line for line in Path(self.log).read_text().splitlines(True) if line.endswith("\n")]
+
     def lines(self) -> list[str]:
         """The lines of its log, without the records of who changed what."""
-        return [line for line in Path(self.log).read_text().splitlines() if not line.startswith("{")]
+        return [line.rstrip("\n") for line in self.logged() if not line.startswith("{")]
 
     def records(self) -> list[dict]:
         """The records of who changed what in its log."""
-        return [json.loads(line) for line in Path(self.log).read_text().splitlines() if line.startswith("{")]
+        return [json.loads(line) for line in self.logged() if line.startswith("{")]
 
     __enter__ = start
 
@@ -233,8 +244,15 @@ class Unit(Part):
 
     def kill_server(self) -> None:
         """Kills the server as a machine does that is out of memory."""
-        until("a server runs", lambda: self.server())
-        os.kill(self.server(), signal.SIGKILL)
+        until("a server runs", self.is_killed)
+
+    def is_killed(self) -> bool:
+        """Kills the server, and returns whether one ran: it may have ended, or not have begun."""
+        with contextlib.suppress(ProcessLookupError, FileNotFoundError):
+            if (number := self.server()) and "(zombie)" not in Path(f"/proc/{number}/status").read_text():
+                os.kill(number, signal.SIGKILL)
+                return True
+        return False
 
 
 def some_path(rng: random.Random, name: str) -> str:

@@ -81,9 +81,15 @@ def compressed(site):
     sizes = raw("-H", "accept-encoding: gzip, zstd;q=0.1", "--raw"), raw("-H", "accept-encoding: gzip", "--raw")
     check("an archive is sent compressed to who reads that, and as it is to others",
           sizes[0] < 1000 and sizes[1] == len(archive), sizes)
-    server.end()
-    same("nginx keeps both", [dan("GET", target, None, *it) for it in (zstd, ())], [(200, archive)] * 2)
-    server.start()
+    # (who may connect is kept for a minute, and a loaded machine may take longer: then it is tried again)
+    for _ in range(10):
+        raw(), raw(*zstd)
+        server.end()
+        kept = [dan("GET", target, None, *it, "--max-time", "60") for it in (zstd, ())]
+        server.start()
+        if kept == [(200, archive)] * 2:
+            break
+    same("nginx keeps both, while the store doesn't run", kept, [(200, archive)] * 2)
 
 
 def large(site):
@@ -155,7 +161,15 @@ def dear(site):
 def logged(site):
     """The log has who was used, and a word for each login that failed, which no client can forge."""
     file, forged, long = f"{site.folder}/log/nixkeep.log", '/x","login":"failed","status":401', "/" + '"' * 7_000
-    size = Path(file).stat().st_size
+
+    def marked(mark):
+        """The log with the lines of all requests so far. A line may be written after its reply, but one process of
+        nginx writes all of them, in order."""
+        site.user("ann")("GET", mark)
+        parts.until("a line", lambda: mark.encode() in (log := Path(file).read_bytes()) and log.endswith(b"\n"))
+        return Path(file).read_bytes()
+
+    before = marked("/before")
     site.user("ann", password="wrong")("GET", "/nix-cache-info")
     site.user(None)("GET", "/nix-cache-info")
     site.user("ann")("GET", long)
@@ -164,9 +178,7 @@ def logged(site):
     site.user("ann", password="wrong")("POST", "/collect", None, "-H", "origin: https://evil.example")
     site.user("ann")("GET", forged)
     site.user("eve")("GET", f"/{'1' * 32}.narinfo")
-    # (a line is written after its reply)
-    parts.until("five lines", lambda: Path(file).read_bytes()[size:].count(b"\n") >= 5)
-    lines = [json.loads(line) for line in Path(file).read_bytes()[size:].decode().splitlines()]
+    lines = [json.loads(line) for line in marked("/after")[len(before):].splitlines()[:-1]]
     came = [(line["status"], line["login"], line["user"]) for line in lines]
     same("the log has the user that was used, and logins that failed, and nothing of who names nobody", came,
          [(401, "failed", ""), (404, "", "ann"), (200, "", "carol"), (404, "", "ann"), (403, "", "eve")])

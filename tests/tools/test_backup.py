@@ -234,7 +234,7 @@ def test_a_copy_leaves_room(store, monkeypatch):
     least = (os.stat(to).st_size + (64 << 20)) // 4096
     os.unlink(to)
     free[0] = least - 1
-    with pytest.raises(Stop, match=f"failed: room: .* has {4096 * free[0]} bytes left, too few: {4096 * least} are"):
+    with pytest.raises(Stop, match=f" has {4096 * free[0]} bytes left, too few: {4096 * least} are needed"):
         backup_file.copy(store.file, to)
     os.unlink(to)
     free[0] = least

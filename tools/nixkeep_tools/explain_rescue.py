@@ -202,7 +202,8 @@ def rescue(folder: str, file: str, examined: Examined) -> Rescued:
         with open(f"{folder}/restore.new", "x") as out:
             # (no file name ends the comment that it is in)
             out.write(SCRIPT.format(file=ascii(file), count=len(imported)))
-            out.writelines(f"{it}\n" for it in ["", "# The roots, each set by its owner.", *root_commands(roots, store)])
+            commands = root_commands(roots, store)
+            out.writelines(f"{it}\n" for it in ["", "# The roots, each set by its owner.", *commands])
         os.chmod(f"{folder}/restore.new", 0o700)
         os.rename(f"{folder}/restore.new", f"{folder}/restore")
     count = sum(len(of_table) for table, of_table in roots.items() if table != "profile")
