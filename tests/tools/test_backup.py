@@ -14,7 +14,9 @@ import os
 import re
 import shutil
 import signal
+import socket
 import sqlite3
+import stat
 import subprocess
 import time
 import types
@@ -24,9 +26,10 @@ import pytest
 
 from nixkeep_dev.build.program import HERE
 from nixkeep_dev.testing import stores
+from nixkeep_dev.testing.nar import archive, hidden, nar_hash
 from nixkeep_dev.testing.store import killed
-from nixkeep_tools import as_owner, backup_check, backup_fetch, backup_file, backup_folder, backup_restore, disk_room
-from nixkeep_tools import http_client, objects, store_file, store_size
+from nixkeep_tools import as_owner, backup_check, backup_command, backup_fetch, backup_file, backup_folder
+from nixkeep_tools import backup_restore, disk_room, http_client, objects, stopping, store_file, store_size, streams
 from nixkeep_tools.failures import Stop
 from tests.tools import servers
 from tests.tools.servers import ran
@@ -186,15 +189,19 @@ def test_a_failure_costs_no_copy(store, good):
     assert not none.exists()
     none.touch()
     fails(store.copy(file=none), "no table of a store", store, good)
+    fails(store.copy(file=store.config), "failed: copy: .* is not a database", store, good)
     damaged = store.damaged()
     fails(store.copy("--state", store.state, file=damaged), "hash isn't", store, good)
     state = json.loads(Path(store.state).read_text())
     assert "hash isn't" in state["reason"] and "succeeded" not in state
+    assert Path(store.state).stat().st_mode & 0o777 == 0o600, "a reason may name files"
+    fails(store.copy("--state", store.folder), f"failed: state: {store.folder}: it is a folder", store, good)
     status, output, errors = store.copy("--state", f"{damaged}/state", file=damaged)
     lines = [line.removeprefix("nixkeep-backup: failed: ").partition(":")[0] for line in errors.splitlines()]
     assert (status, lines) == (1, ["state", "test"]), "a state that can't be written hides no reason"
     os.mkfifo(pipe := f"{store.folder}/pipe.db")
     fails(store.copy(file=pipe), "it is no file", store, good)
+    fails(backup(*store.options("copy"), "--db", store.file, "--to", pipe), "failed: folder: .*Not a dir", store, good)
     os.symlink(f"{store.to}/{store.copies()[0]}", f"{store.folder}/log.db")
     os.mkfifo(f"{store.to}/{store.copies()[0]}-wal")
     assert backup_file.rows(f"{store.folder}/log.db")[0] == 6, "a pipe in the place of a log"
@@ -211,6 +218,7 @@ def test_what_a_stopped_copy_has_left(store, good):
     other.write_bytes(b"other")
     new.symlink_to(other)
     Path(f"{new}-wal").write_bytes(b"left")
+    Path(f"{new}-shm").symlink_to(store.folder)
     assert store.copy()[0] == 0
     assert other.read_bytes() == b"other", "the target of a link"
     assert all(map(backup_folder.time_of, store.copies())), "only copies are left"
@@ -227,9 +235,9 @@ def test_what_a_stopped_copy_has_left(store, good):
 
 def test_a_copy_leaves_room(store, monkeypatch):
     """A store on the same disk goes on: 64 MB are left (docs/OPERATING.md, A full disk)."""
-    free, real, to = [1 << 20], os.statvfs, f"{store.to}/new.db"
-    seen = lambda it: types.SimpleNamespace(f_blocks=1, f_frsize=4096, f_bavail=free[0]) if it == store.to else real(it)
-    monkeypatch.setattr(os, "statvfs", seen)
+    free, blocks, real, to = [1 << 20], 1, os.statvfs, f"{store.to}/new.db"
+    room = lambda: types.SimpleNamespace(f_blocks=blocks, f_frsize=4096, f_bavail=free[0])
+    monkeypatch.setattr(os, "statvfs", lambda it: room() if it == store.to else real(it))
     backup_file.copy(store.file, to)
     least = (os.stat(to).st_size + (64 << 20)) // 4096
     os.unlink(to)
@@ -240,6 +248,9 @@ def test_a_copy_leaves_room(store, monkeypatch):
     free[0] = least
     backup_file.copy(store.file, to)
     assert backup_file.rows(to)[0] == 6
+    os.unlink(to)
+    free[0], blocks = 0, 0
+    backup_file.copy(store.file, to)
 
 
 @pytest.mark.parametrize("what", ["copy", "fetch", "before-migration"])
@@ -270,6 +281,152 @@ def test_a_folder_that_others_may_write(store, good):
     assert store.copy()[0] == 0
 
 
+@pytest.mark.parametrize("is_read", [False, True])
+def test_a_log_of_a_copy(is_read, folder, monkeypatch):
+    """What is in it is brought into the file, and it stays while a reader keeps it from that."""
+    other, path = f"{folder}/other.db", f"{folder}/new.db"
+    rows = lambda: sqlite3.connect(path).execute("SELECT count(*) FROM t").fetchone()
+    with contextlib.closing(sqlite3.connect(other)) as conn:
+        conn.executescript("PRAGMA journal_mode = WAL; CREATE TABLE t (a); INSERT INTO t VALUES (1), (2);")
+        for it in ("", "-wal"):
+            shutil.copy(f"{other}{it}", f"{path}{it}")
+    with contextlib.closing(sqlite3.connect(path, timeout=0)) as reader:
+        if is_read:
+            reader.execute("BEGIN")
+            reader.execute("SELECT * FROM t").fetchall()
+        # (the program that reports may leave a log)
+        monkeypatch.setattr(backup_file, "ran", lambda *_: "text")
+        assert backup_file.reported(path, None, "program") == "text"
+        assert Path(f"{path}-wal").exists() == is_read and rows() == (2,)
+    if not is_read:
+        Path(f"{path}-wal").unlink(missing_ok=True)
+        assert rows() == (2,)
+
+
+def test_a_long_copy_is_stopped(folder, monkeypatch):
+    """A time limit is met while the pages are copied."""
+    large, to, sizes = f"{folder}/large.db", f"{folder}/new.db", []
+    with contextlib.closing(sqlite3.connect(large)) as conn, conn:
+        conn.executescript("CREATE TABLE t (a); INSERT INTO t VALUES (zeroblob(60000000));")
+    ring = lambda *_: (_ for _ in ()).throw(Stop("failed: time"))
+    monkeypatch.setattr(disk_room, "demand", lambda *_: signal.setitimer(signal.ITIMER_REAL, 0.001))
+    before = signal.signal(signal.SIGALRM, ring)
+    try:
+        with pytest.raises(Stop, match="^failed: time$"):
+            backup_file.copy(large, to)
+    finally:
+        signal.setitimer(signal.ITIMER_REAL, 0)
+        signal.signal(signal.SIGALRM, before)
+    assert os.path.getsize(to) < os.path.getsize(large)
+
+
+@pytest.mark.parametrize("table, wanted", [
+    ({}, ("root", None)), ({"trusted-users": ["*", "ann"]}, ("root", None)),
+    ({"trusted-users": ["", "a b", "@", "@b c", "@builders"]}, ("root", "builders")),
+    ({"trusted-users": ["@*", "ann"]}, ("ann", None)), ({"trusted-users": []}, ("root", None)),
+    ({"trusted-users": [], "allowed-users": ["a b"]}, None)])
+def test_who_asks_by_a_configuration(table, wanted):
+    """A user or a group that it lets connect, by a plain name."""
+    with contextlib.nullcontext() if wanted else pytest.raises(Stop, match="names nobody who may connect"):
+        assert backup_file.caller(table) == wanted
+
+
+def test_a_new_file(folder):
+    """It is its owner's, whatever the mask, and nothing that is there is taken for one."""
+    before = os.umask(0)
+    backup_file.create(f"{folder}/new.db")
+    os.umask(before)
+    assert os.stat(f"{folder}/new.db").st_mode & 0o777 == 0o600
+    os.symlink("elsewhere", f"{folder}/link.db")
+    for it in ("new.db", "link.db"):
+        with pytest.raises(FileExistsError):
+            backup_file.create(f"{folder}/{it}")
+    with contextlib.suppress(sqlite3.Error):
+        backup_file.open_copy(f"{folder}/gone.db").execute("CREATE TABLE t (a)")
+    assert sorted(os.listdir(folder)) == ["link.db", "new.db"]
+
+
+@pytest.mark.parametrize("script", ["yes | head -c 100000", "printf '\\377'", "printf '\\033[2J'"])
+def test_what_a_failing_test_prints(script, capfd):
+    """A line has a part of it, and nothing of it is meant for a terminal."""
+    with pytest.raises(Stop, match="^failed: test: status 1: ") as stopped:
+        backup_file.ran(["sh", "-c", f"{script}; exit 1"], "test")
+    streams.say(stopped.value.line)
+    line = capfd.readouterr().err
+    assert len(line) < 400 and line.count("\n") == 1 and line[:-1].isprintable()
+
+
+@pytest.mark.parametrize("report", ["", "total 6 7\n", "total 7 8\n"])
+def test_a_report_that_is_not_of_the_rows(report, folder, monkeypatch):
+    monkeypatch.setattr(backup_file, "rows", lambda _: (7, 7))
+    monkeypatch.setattr(backup_file, "explain", lambda *_: None)
+    monkeypatch.setattr(backup_file, "reported", lambda *_: report)
+    with pytest.raises(Stop, match="its rows have 7 objects of 7 bytes, its report others"):
+        backup_file.test("new.db", None, "program")
+
+
+@pytest.mark.parametrize("what", ["copy", "before-migration"])
+def test_a_store_that_changed_while_it_was_copied(what, folder, monkeypatch):
+    """No copy is kept."""
+    found = iter([(1, 1), (2, 2)])
+    monkeypatch.setattr(backup_file, "rows", lambda _: next(found))
+    for it in ("explain", "test", "copy"):
+        monkeypatch.setattr(backup_file, it, lambda *_: (1, 1))
+    words = types.SimpleNamespace(db=f"{folder}/store.db", config=None, program="program", note=None)
+    next(found) if what == "copy" else None
+    with pytest.raises(Stop, match="the store has other objects"):
+        backup_command.of_file(words, f"{folder}/new.db") if what == "copy" else backup_file.keep(words, 1)
+
+
+# What may be in the place of the state of the last runs.
+STATES = {"nothing": lambda _: None, "half": lambda at: at.write_text("{"), "a list": lambda at: at.write_text("[]"),
+          "bytes": lambda at: at.write_bytes(b"\xff"), "a pipe": os.mkfifo, "a link": lambda at: at.symlink_to("none")}
+
+
+@pytest.mark.parametrize("what", STATES)
+def test_a_state(what, folder):
+    """It is whole, and has what earlier runs did. What is in its place isn't waited for or written through."""
+    state, other = Path(folder, "state"), Path(folder, "other")
+    STATES[what](state)
+    other.write_text("other")
+    Path(f"{state}.new").symlink_to(other)
+    backup_folder.write_state(str(state), succeeded=1)
+    backup_folder.write_state(str(state), failed=2)
+    assert json.loads(state.read_text()) == {"succeeded": 1, "failed": 2}
+    assert sorted(os.listdir(folder)) == ["other", "state"] and other.read_text() == "other" and not state.is_symlink()
+
+
+FAILURES = [(Stop("failed: x", 3), 3, "failed: x"), (MemoryError(), 1, "failed: memory"),
+            (OSError(errno.EIO, "none", "place"), 1, "failed: place: none"),
+            (store_file.Locked("file", 0), 1, "failed: file: file is locked by another process"),
+            (KeyboardInterrupt(), 130, "")]
+
+
+@pytest.mark.parametrize("error, status, line", FAILURES)
+def test_a_failure_of_a_copy(error, status, line, store, good, monkeypatch, capfd):
+    """It is a line and a status, also in the state. The clock rings no more."""
+    monkeypatch.setattr(backup_file, "copy", lambda *_: (_ for _ in ()).throw(error))
+    before = {it: signal.getsignal(it) for it in (signal.SIGALRM, signal.SIGHUP, signal.SIGTERM)}
+    mask = os.umask(0o077)
+    words = [*store.options("copy"), "--db", store.file, "--to", store.to, "--state", store.state]
+    try:
+        assert backup_command.main([BACKUP, *words]) == status and signal.alarm(0) == 0
+    finally:
+        os.umask(mask)
+        for number, handler in before.items():
+            signal.signal(number, handler)
+    assert capfd.readouterr() == ("", f"nixkeep-backup: {line}\n" if line else "")
+    assert not line or json.loads(Path(store.state).read_text())["reason"] == line
+    assert store.bytes_of_copies() == good
+
+
+def test_a_copy_without_an_output(store):
+    """No file of it gets the number of an output that is closed."""
+    words = [BACKUP, *store.options("copy"), "--db", store.file, "--to", store.to]
+    assert ran(["sh", "-c", 'exec "$@" >&- 2>&-', "-", *words])[0] == 1
+    assert backup_file.rows(f"{store.to}/{store.copies()[0]}")[0] == 6
+
+
 def test_a_log_of_a_copy_that_is_damaged(folder):
     """It is a line."""
     for it in ("new.db", "new.db-wal"):
@@ -280,8 +437,8 @@ def test_a_log_of_a_copy_that_is_damaged(folder):
 
 @contextlib.contextmanager
 def at_work(words, is_begun, env=None):
-    """nixkeep-backup, once it has begun something. A shell starts what goes on in the background without SIGINT, and nohup
-    without SIGHUP, so the signals get their effects back."""
+    """nixkeep-backup, once it has begun something. A shell starts what goes on in the background without SIGINT, and
+    nohup without SIGHUP, so the signals get their effects back."""
     words = ["env", "--default-signal=INT,HUP", BACKUP, *words]
     with subprocess.Popen(words, stderr=subprocess.PIPE, text=True, env={**os.environ, **(env or {})}) as made:
         while made.poll() is None and not is_begun():
@@ -300,10 +457,15 @@ def test_the_end_of_a_test(store, good):
     fails(backup(*words), "failed: test: status -9", store, good)
     assert reason().startswith("failed: test: status -9")
     program.write_text(f"#!/bin/sh\ntouch {store.folder}/begun\nexec sleep 100\n")
-    with at_work(words, Path(store.folder, "begun").exists) as running:
-        running.terminate()
+    with socket.socket(socket.AF_UNIX, socket.SOCK_DGRAM) as manager:
+        manager.bind(f"{store.folder}/manager")
+        env = {"NOTIFY_SOCKET": f"{store.folder}/manager"}
+        with at_work(words, Path(store.folder, "begun").exists, env) as running:
+            assert manager.recv(100) == b"READY=1", "the server may start again while the copy is tested"
+            running.terminate()
     assert running.returncode == 1 and reason() == "failed: copy: it was stopped by SIGTERM"
-    assert store.bytes_of_copies() == good
+    fails(backup(*words, "--seconds", "1"), "failed: time: it took more than 1 seconds", store, good)
+    assert reason() == "failed: time: it took more than 1 seconds"
 
 
 def test_the_note_of_a_server_that_was_stopped(store, good):
@@ -327,6 +489,7 @@ def test_which_copies_of_a_year_are_kept():
     wanted = {*[f"2025-12-{day}" for day in range(25, 32)], *map(str, sundays)}
     assert kept == sorted(f"{it}T03-00-00Z.db" for it in wanted)
     many = [f"2025-12-31T{hour:02}-00-00Z.db" for hour in range(4, 24)]
+    assert [*filter(backup_folder.time_of, ["2025-1-1T3-0-0Z.db", f"{DAILY[0]}\n", *DAILY[:1]])] == DAILY[:1]
     left = backup_folder.kept([*DAILY, *many])
     assert {*kept} - left == {"2025-12-31T03-00-00Z.db"}, "many of one day delete none of the days before"
     assert backup_folder.kept(DAILY[:7]) == {*DAILY[:7]}, "old ones alone stay"
@@ -546,7 +709,11 @@ def test_a_copy_through_a_server(store):
         wanted = all_of_server(http_client.Place(url))
         fails_with("needs a trusted caller", fetched(store, url, "--as", "ann"))
         assert fetched(store, url, "--as", "eve") == (4, "", "nixkeep-backup: denied: connect\n")
+        assert fetched(store, url, "--as", "a\nb") == (3, "", "nixkeep-backup: refused: 20 bad-caller\n")
     is_the_copy(store, wanted)
+    fails_with("failed: server: none is named", backup(*store.options("fetch"), "--to", store.to))
+    with servers.server(store.program, "--config", store.config, "--db", f"{store.folder}/empty.db") as port:
+        assert fetched(store, f"http://127.0.0.1:{port}", "--as", "ann")[0] == 0, "where no label is censored"
 
 
 def test_a_copy_through_a_server_leaves_room(store, monkeypatch):
@@ -585,31 +752,73 @@ def test_a_copy_of_labels_that_look_like_others(store):
     is_the_copy(store, wanted)
 
 
+def dropped(ask, user, root):
+    """A root is dropped, and what it has kept is deleted."""
+    ask(user, "DELETE", root)
+    ask(user, "POST", "/collect")
+
+
+FIRST_PATH, SECOND_PATH = hidden("first"), hidden("second")
+
+
+def replace(ask, contents):
+    """Imports an object anew with these contents, and one that refers to it, which stays as it is."""
+    there = [it for it in (SECOND_PATH, FIRST_PATH) if f"/{it}\n" in ask("build", "GET", "/paths")]
+    if there:
+        ask("build", "POST", "/delete", objects.lines(*[("path", it) for it in there]))
+    for path, text, refs in ((FIRST_PATH, contents, []), (SECOND_PATH, b"second", [FIRST_PATH])):
+        pairs = [("path", path), ("nar-hash", nar_hash(archive(text))), *[("reference", it) for it in refs]]
+        ask("build", "POST", "/import", objects.lines(*pairs) + archive(text))
+
+
+def test_what_a_copy_does_not_ask_for():
+    """An archive that has become a large one, which nixkeep-cache would send whole; and a profile whose generations no
+    store numbers so."""
+    fetch = backup_fetch.Fetch(None, None, "")
+    assert fetch.archive(objects.Record(FIRST_PATH, bytes(32), (16 << 20) + 1, [], None, None)) is None
+    fetch.as_user = lambda *_: "generation 1\n"
+    with pytest.raises(Stop, match="^failed: profile: ann tools: generation 2 is generation 1 in the copy"):
+        fetch.set_profile("ann", "tools", {1: FIRST_PATH, 2: FIRST_PATH})
+
+
 def test_a_copy_of_a_store_that_changes(store):
-    """A proxy changes the store between two requests of a copy."""
+    """A proxy changes the store between two requests of a copy: records and archives are gone, and objects are there
+    that weren't, or have other contents."""
     steps, count = [], itertools.count()
     with servers.server(store.program, "--config", store.config, "--db", store.file) as port:
         place = http_client.Place(f"http://127.0.0.1:{port}")
 
         def change(method, target):
-            if target.startswith("/nar/") and steps or target == "/report" and steps[:1] == [always]:
+            if steps and target.startswith(steps[0][0]):
                 server = http_client.Server(place, {})
                 try:
-                    steps.pop(0)(asker(objects.Store(server, "build", "/nix/store")))
+                    steps.pop(0)[1](asker(objects.Store(server, "build", "/nix/store")))
                 finally:
                     server.connection.close()
 
         def always(ask):
-            steps.append(always)
+            steps.append(("/report", always))
             add(ask, f"always{next(count)}", "always")
 
         with servers.proxy(port, everybody="build", hook=change) as made:
-            steps += [lambda ask: ask("ann", "POST", "/collect"), lambda ask: add(ask, "late", "late"),
-                      lambda ask: ask("ann", "DELETE", "/root/user/ann/mine")]
+            steps += [("/info/", lambda ask: dropped(ask, "ann", "/temp/ann/7")),
+                      ("/nar/", lambda ask: dropped(ask, "build", "/root/permanent/kept")),
+                      ("/nar/", lambda ask: add(ask, "late", "late")),
+                      ("/nar/", lambda ask: ask("ann", "DELETE", "/root/user/ann/mine"))]
             came = fetched(store, servers.url(made), "--as", "build")
             assert came[0] == 0 and not steps
             wanted = all_of_server(place)
-            steps.append(always)
+            is_the_copy(store, wanted)
+            os.unlink(f"{store.to}/{store.copies()[0]}")
+            with contextlib.closing(place.connection()) as connection:
+                replace(asker(objects.Store(http_client.Server(place, {}, connection=connection), "", "")), b"first!")
+            # (the same number of bytes, which no listing shows; and another one, once it was copied)
+            steps += [(f"/nar/{FIRST_PATH}", lambda ask: replace(ask, b"second")),
+                      (f"/nar/{SECOND_PATH}", lambda ask: replace(ask, b"the third"))]
+            came = fetched(store, servers.url(made), "--as", "build")
+            assert came[0] == 0 and not steps, came
+            wanted = all_of_server(place)
+            steps.append(("/report", always))
             came = fetched(store, servers.url(made), "--as", "build")
             assert came[0] == 1 and "changed in each of 10 passes" in came[2], "a store that never rests"
     is_the_copy(store, wanted)
@@ -623,6 +832,7 @@ NO_ANSWERS = {
     "a longer number": ({"/roots": PROFILE % (b"9" * 5000, PATH)}, "bad-"),
     "no label": ({"/roots": b" %s\n" % PATH}, "failed: answer"),
     "a label out of order": ({"/roots": b"{temp:1} %s\nx %s\n" % (PATH, PATH)}, "failed: answer"),
+    "a long one": ({"/roots": b"{temp:1} %s\n%s %s\n" % (PATH, b"x" * 100_000, PATH)}, "failed: answer"),
     "bytes that are no text": ({"/roots": b"\xff\n"}, "failed: answer"),
     "a record that is none": ({"/paths": PATH + b"\n", INFO: b"x\n"}, "failed: answer"),
     "one with a wrong hash": ({"/paths": PATH + b"\n", INFO: RECORD % (PATH, b"!")}, "failed: answer"),
@@ -640,7 +850,7 @@ def test_a_hostile_server(what, folder, program):
         words = ["--server", url, "--as", "build", "--seconds", "100", "--program", program, "--to", folder]
         status, output, errors = backup("fetch", *words)
     assert status in (1, 3) and errors.count("\n") == 1 and wanted in errors and not output
-    assert os.listdir(folder) == []
+    assert len(errors) < 1000 and os.listdir(folder) == []
 
 
 # ---- stores put back
@@ -658,12 +868,153 @@ def restored(store, good, units):
 
 def test_a_restore_from_what_is_no_copy_stops_nothing(store, restored, units):
     os.mkfifo(pipe := f"{store.folder}/pipe.db")
+    copy, logged = f"{store.to}/{store.copies()[0]}", f"{store.folder}/logged.db"
+    for it in (logged, f"{logged}-wal"):
+        shutil.copy(copy, it)
     for file, line in ((store.damaged(), "hash isn't"), (f"{store.folder}/none.db", "No such file"),
                        (store.config, "not a database"), (pipe, "it is no file"), (store.folder, "it is no file"),
-                       (of_later_schema(store), "made by a later version")):
+                       (of_later_schema(store), "made by a later version"), (logged, "a copy is one file")):
         status, _, errors = restored(file)
         assert status == 1 and line in errors and errors.count("\n") == 1, file
+        assert str(file) in errors and "aside-" not in errors, "it is the copy that is named"
+    with open(copy, "r+b") as held:
+        fcntl.lockf(held, fcntl.LOCK_EX, 512, 1 << 30)
+        fails_with(f"failed: copy: {copy} is locked by process", restored(copy))
     assert not units.notes.exists()
+
+
+def test_the_folder_of_a_restore(store, good, units):
+    """Systemd has links to the folders of stores."""
+    link, copy = f"{store.folder}/link", f"{store.to}/{store.copies()[0]}"
+    restored = lambda folder: backup(*store.options("restore"), "--folder", folder, "red", copy, env=units.env)
+    fails_with("there is none; start nixkeep@red once", restored(link))
+    os.symlink(store.folder, link)
+    assert restored(link)[0] == 0 and [*Path(store.folder).glob("aside-*")]
+
+
+def test_the_account_of_a_store_stops_no_restore(folder, monkeypatch):
+    monkeypatch.setattr(os, "geteuid", lambda: 1234)
+    with backup_restore.alone(folder), backup_restore.alone(folder):
+        pass
+
+
+@pytest.mark.parametrize("what", ["a link", "a pipe"])
+def test_a_new_folder_that_is_replaced(what, store, good, monkeypatch):
+    """The account of a store puts something else in the place of root's: no copy is made there, and no pipe waited
+    for."""
+    before, real, secret = store.bytes(), os.mkdir, Path(store.folder, "secret")
+    secret.mkdir()
+
+    def mkdir(name, mode, dir_fd):
+        real(name, mode, dir_fd=dir_fd)
+        os.rmdir(name, dir_fd=dir_fd)
+        os.symlink(secret, name, dir_fd=dir_fd) if what == "a link" else os.mkfifo(name, dir_fd=dir_fd)
+
+    monkeypatch.setattr(os, "mkdir", mkdir)
+    with pytest.raises(Stop, match="^failed: restore: .*/aside-[^/]*: Not a directory$"):
+        backup_restore.put(f"{store.to}/{store.copies()[0]}", store.folder)
+    assert store.bytes() == before and not os.listdir(secret)
+
+
+def test_a_restore_from_a_copy_that_grows(store, good, monkeypatch):
+    """Whoever may write it fills no disk: it has the bytes that it had."""
+    real, sizes, copy = backup_file.fresh, [], f"{store.folder}/grows.db"
+    shutil.copy(f"{store.to}/{store.copies()[0]}", copy)
+    size = os.path.getsize(copy)
+
+    def fresh(*words):
+        with open(copy, "ab") as more:
+            more.write(bytes(3 << 20))
+        return real(*words)
+
+    monkeypatch.setattr(backup_file, "fresh", fresh)
+    backup_restore.put(copy, store.folder, lambda path: sizes.append(os.path.getsize(path)))
+    assert sizes == [size]
+
+
+@pytest.mark.parametrize("error", [MemoryError(), KeyboardInterrupt(), OSError(errno.EIO, "none", 7), Stop("failed")])
+def test_a_restore_whose_test_fails(error, store, good):
+    """Nothing is left of it, nor was the copy in a folder that others may read."""
+    before, seen = store.bytes(), []
+
+    def test(path):
+        seen.append(os.stat(os.path.dirname(path)).st_mode & 0o777)
+        raise error
+
+    mask = os.umask(0)
+    with pytest.raises(Stop if isinstance(error, OSError) else type(error)):
+        backup_restore.put(f"{store.to}/{store.copies()[0]}", store.folder, test)
+    os.umask(mask)
+    assert seen == [0o700] and store.bytes() == before and not [*Path(store.folder).glob("aside-*")]
+
+
+# What may have a name next to a store, and whether a server that locks it is found: in a folder of one's own, and in
+# that of another account.
+NEXT = {"a file": (lambda at: Path(at).touch(), True, True), "a pipe": (os.mkfifo, False, False),
+        "a folder": (os.mkdir, False, False), "a link to a file": (lambda at: os.symlink(__file__, at), True, False),
+        "a link to nothing": (lambda at: os.symlink("none", at), False, False),
+        "a link to a device": (lambda at: os.symlink("/dev/null", at), False, False)}
+
+
+@pytest.mark.parametrize("what", NEXT)
+@pytest.mark.parametrize("owner", [0, 1234] if os.geteuid() == 0 else [os.geteuid()])
+def test_what_a_restore_looks_at(what, owner, folder):
+    """Root opens no device or pipe for a look at its lock, and follows no link of another account."""
+    make, own, of_another = NEXT[what]
+    make(f"{folder}/store.db-x")
+    os.chown(folder, owner, -1)
+    with backup_restore.opened(folder) as here:
+        number = backup_restore.for_locking("store.db-x", here)
+    assert (number is not None) == (of_another if owner == 1234 else own)
+    if number is not None:
+        os.close(number)
+
+
+def test_names_that_are_in_use(store, good, monkeypatch):
+    """A copy, and the folder of a restore, have names that nothing else has, and no link that leads nowhere."""
+    copy, taken, count = f"{store.to}/{store.copies()[0]}", FIRST.strftime(backup_folder.FORM), itertools.count()
+    os.symlink("none", f"{store.to}/{taken}")
+    os.symlink("none", f"{store.folder}/aside-{taken[:-3]}")
+    monkeypatch.setattr(time, "gmtime", lambda *_: (FIRST + datetime.timedelta(seconds=next(count) // 2)).timetuple())
+    assert backup_folder.add(store.to, lambda path: Path(path).touch())[0] > taken
+    count = itertools.count()
+    assert backup_restore.put(copy, store.folder) > f"{store.folder}/aside-{taken[:-3]}"
+    assert os.readlink(f"{store.to}/{taken}") == os.readlink(f"{store.folder}/aside-{taken[:-3]}") == "none"
+
+
+def test_a_restore_that_can_t_link(store, good, folder, monkeypatch):
+    """Where there was no store, what was next to it stays as it was."""
+    room, real = Path(folder, "room"), os.link
+    room.mkdir()
+    names = ["store.db-wal", "store.db-x"]
+    for it in names:
+        Path(room, it).write_text(it)
+    fail = lambda name: (_ for _ in ()).throw(OSError(errno.EMLINK, "none")) if name == names[1] else None
+    monkeypatch.setattr(os, "link", lambda name, *words, **more: fail(name) or real(name, *words, **more))
+    with pytest.raises(Stop, match="^failed: restore: .*none$"):
+        backup_restore.put(f"{store.to}/{store.copies()[0]}", str(room))
+    assert sorted(os.listdir(room)) == names and [os.stat(room / it).st_nlink for it in names] == [1, 1]
+
+
+def test_what_can_t_be_put_back(store, good, monkeypatch):
+    """It stays in the other folder, and all else is back."""
+    real, tried = {it: getattr(os, it) for it in ("link", "listdir")}, []
+
+    def link(name, *words, **more):
+        tried.append(name)
+        if tried.count("store.db-wal") == 2:
+            raise OSError(errno.EIO, "none")
+        real["link"](name, *words, **more)
+
+    monkeypatch.setattr(os, "link", link)
+    monkeypatch.setattr(os, "listdir", lambda at: sorted(real["listdir"](at), reverse=True))
+    monkeypatch.setattr(os, "rename", lambda *_, **__: (_ for _ in ()).throw(OSError(errno.EIO, "none")))
+    before = store.bytes()
+    with pytest.raises(Stop, match="^failed: restore: .*none$"):
+        backup_restore.put(f"{store.to}/{store.copies()[0]}", store.folder)
+    aside, = Path(store.folder).glob("aside-*")
+    assert os.listdir(aside) == ["store.db-wal"] and Path(aside, "store.db-wal").read_bytes() == before["store.db-wal"]
+    assert Path(store.file).read_bytes() == before["store.db"] and os.stat(store.file).st_nlink == 1
 
 
 def test_a_restore_leaves_room(store, good, monkeypatch):
@@ -780,14 +1131,16 @@ class Stopped(BaseException):
 
 
 def failing_at(patch, place, error):
-    """The call at this place, among those that change a folder, raises the error in place of what it does. Those after
-    it are done."""
+    """The call at this place, among those that change a folder, raises the error in place of what it does, or a signal
+    comes ahead of it. Those after it are done."""
     count = itertools.count()
 
     def changed(real):
         def call(*words, **more):
             if next(count) == place:
-                raise error
+                if isinstance(error, BaseException):
+                    raise error
+                signal.raise_signal(error)
             return real(*words, **more)
         return call
 
@@ -796,10 +1149,22 @@ def failing_at(patch, place, error):
     return count
 
 
-@pytest.mark.parametrize("error", [Stopped(), OSError(errno.EIO, "none")], ids=["stopped", "failing"])
-def test_a_restore_that_is_stopped(error, store, good, monkeypatch):
+@pytest.fixture
+def by_signals():
+    """Signals end what is done here as they end a restore."""
+    before = {it: signal.getsignal(it) for it in stopping.ENDING}
+    stopping.by_signals("restore")
+    yield
+    for it, handler in before.items():
+        signal.signal(it, handler)
+
+
+@pytest.mark.parametrize("error", [Stopped(), OSError(errno.EIO, "none"), signal.SIGTERM],
+                         ids=["stopped", "failing", "signalled"])
+def test_a_restore_that_is_stopped(error, store, good, monkeypatch, by_signals):
     """At each step: a server opens the store as it was with its log, or as the copy has it, or refuses the file. Then
-    all that was there is in the folder for that, or in its place. A step that fails leaves no file that is refused."""
+    all that was there is in the folder for that, or in its place. A step that fails, or a signal, leaves no file that
+    is refused."""
     was, copy, refused = store.bytes(), f"{store.to}/{store.copies()[0]}", 0
     listed = lambda file: ran([store.program, "--config", store.config, "--db", file, "--user", "build", "roots"])
     wanted = listed(copy)
@@ -808,6 +1173,8 @@ def test_a_restore_that_is_stopped(error, store, good, monkeypatch):
         room.mkdir()
         for it, data in was.items():
             Path(room, it).write_bytes(data)
+        Path(room, "store.db-x").symlink_to("none")
+        Path(room, "store.db-y").mkdir()
         with monkeypatch.context() as patch, contextlib.suppress(Stopped, Stop):
             reached = failing_at(patch, place, error)
             backup_restore.put(copy, str(room))
@@ -815,38 +1182,52 @@ def test_a_restore_that_is_stopped(error, store, good, monkeypatch):
             break
         status, output, errors = listed(f"{room}/store.db")
         assert status == 3 or (status, output, errors) == wanted, place
+        link, made = ([at / it for at in (room, *room.glob("aside-*")) if os.path.lexists(at / it)]
+                      for it in ("store.db-x", "store.db-y"))
+        assert {os.readlink(it) for it in link} == {"none"} and made[0].is_dir() and len(made) == 1
         if status == 3:
             aside, = room.glob("aside-*")
             assert {it: next(at / it for at in (aside, room) if (at / it).exists()).read_bytes() for it in was} == was
             refused += 1
-    assert place > 10 and (0 < refused < 8 if isinstance(error, Stopped) else not refused)
+    assert place > 10 and (0 < refused < 12 if isinstance(error, Stopped) else not refused)
 
 
 def noted(patch):
-    """The syncs of files and folders from now on, by their numbers, and the names that are given, each with the numbers
-    of the file and its folder."""
-    notes, real = [], {it: getattr(os, it) for it in ("fsync", "rename", "link")}
+    """What is done from now on: the syncs of files and folders, by their numbers and bytes, the names that are given,
+    each with the same of the file and the number of its folder, and None for each name that is taken."""
+    notes, real = [], {it: getattr(os, it) for it in ("fsync", "rename", "link", "unlink", "mkdir")}
+    seen = lambda at, **how: (lambda it: (it.st_ino, 0 if stat.S_ISDIR(it.st_mode) else it.st_size))(os.stat(at, **how))
 
     def sync(number):
-        notes.append(os.fstat(number).st_ino)
+        notes.append(seen(number))
         real["fsync"](number)
 
     def give(what, name, to, **where):
         real[what](name, to, **where)
         folder = where.get("dst_dir_fd")
-        seen = os.stat(os.path.dirname(to)) if folder is None else os.fstat(folder)
-        notes.append((os.stat(to, dir_fd=folder, follow_symlinks=False).st_ino, seen.st_ino))
+        notes.append((*seen(to, dir_fd=folder, follow_symlinks=False),
+                      os.stat(os.path.dirname(to) if folder is None else folder).st_ino))
 
-    patch.setattr(os, "fsync", sync)
+    def make(name, mode, dir_fd):
+        real["mkdir"](name, mode, dir_fd=dir_fd)
+        notes.append((None, 0, os.stat(dir_fd).st_ino))
+
+    def take(name, **where):
+        real["unlink"](name, **where)
+        notes.append(None)
+
+    for it, call in {"fsync": sync, "mkdir": make, "unlink": take}.items():
+        patch.setattr(os, it, call)
     for it in ("rename", "link"):
         patch.setattr(os, it, functools.partial(give, it))
     return notes
 
 
-@pytest.mark.parametrize("what, names", [("copy", 1), ("restore", 3), ("before a migration", 1)])
+@pytest.mark.parametrize("what, names", [("copy", 1), ("restore", 4), ("before a migration", 1)])
 def test_what_has_a_name_is_on_the_disk(what, names, store, good, monkeypatch):
-    """A file is synced before it has its name, and the folder after that. Else a power cut could leave a name without
-    what it names, or take a name on which the next step relies."""
+    """All of a file is synced before it has its name, and the folder after that, before another name is taken. Else a
+    power cut could leave a name without what it names, or take a name on which the next step relies."""
+    monkeypatch.setattr(backup_restore, "PIECE", 1_000)
     copy, file = f"{store.to}/{store.copies()[0]}", f"{store.folder}/old.db"
     of_schema_1(file)
     old = {os.stat(it).st_ino for it in (store.file, f"{store.file}-wal", file)}
@@ -856,11 +1237,12 @@ def test_what_has_a_name_is_on_the_disk(what, names, store, good, monkeypatch):
     with monkeypatch.context() as patch:
         notes = noted(patch)
         run[what]()
-    given = [(at, *it) for at, it in enumerate(notes) if isinstance(it, tuple)]
+    given = [(at, *it) for at, it in enumerate(notes) if it and len(it) == 3]
     assert len(given) == names
-    for at, number, folder in given:
-        assert number in old or number in notes[:at], "the file"
-        assert folder in notes[at:], "its folder"
+    for at, number, size, folder in given:
+        assert number in {None, *old} or (number, size) in notes[:at], "the file"
+        later = [*notes[at:], None]
+        assert (folder, 0) in later[:later.index(None)], "its folder"
 
 
 @pytest.mark.parametrize("error", [Stopped(), OSError(errno.ENOSPC, "none")], ids=["stopped", "failing"])
@@ -968,17 +1350,21 @@ def test_a_store_that_is_begun_in_a_restore(store, good, folder, monkeypatch):
 
 @pytest.mark.parametrize("names", [["store.db"], ["store.db-wal", "store.db-x"]])
 def test_a_restore_of_what_a_service_has_left(names, store, restored):
-    """Folders in the place of files are moved away as files are."""
+    """Folders in the place of files are moved away as files are, and links as links."""
     with store.opened() as ask:
         wanted = all_of(ask)
     for it in names:
         with contextlib.suppress(FileNotFoundError):
             os.unlink(f"{store.folder}/{it}")
         os.makedirs(f"{store.folder}/{it}/more")
+    links = {"store.db-link": store.config, "store.db-none": "none", "store.db-folder": store.to}
+    for it, to in links.items():
+        os.symlink(to, f"{store.folder}/{it}")
     status, output, errors = restored(f"{store.to}/{store.copies()[0]}")
     assert (status, errors) == (0, "") and output.startswith("restored 6 objects, ")
     aside, = Path(store.folder).glob("aside-*")
     assert all((aside / name / "more").is_dir() for name in names)
+    assert {it: os.readlink(aside / it) for it in links} == links and os.stat(store.config).st_nlink == 1
     with store.opened() as ask:
         assert all_of(ask) == wanted
 
@@ -998,8 +1384,14 @@ def test_a_copy_before_a_migration(program, folder):
     file, kept = f"{folder}/store.db", Path(folder, "store.db-of-schema-1")
     copied = lambda: backup("before-migration", "--db", file)
     assert copied() == (0, "", ""), "no file"
+    Path(file).touch()
+    assert copied() == (0, "", ""), "an empty one"
     path = of_schema_1(file)
+    with open(file, "r+b") as held:
+        fcntl.lockf(held, fcntl.LOCK_EX, 512, 1 << 30)
+        assert copied() == (0, "", ""), "one that a server has open"
     kept.write_text("of a start that was stopped")
+    Path(f"{kept}.new").symlink_to("none")
     opened = os.open(folder, os.O_RDONLY)
     fcntl.flock(opened, fcntl.LOCK_EX)
     fails_with("another copy is being made", copied())
@@ -1021,6 +1413,10 @@ def test_a_file_that_is_no_store_before_a_migration(folder):
     with contextlib.closing(sqlite3.connect(file)) as conn, conn:
         conn.execute("UPDATE object SET hash = zeroblob(32)")
     fails_with("hash isn't", backup("before-migration", "--db", file))
+    assert os.listdir(folder) == ["damaged.db"], "no half of a copy is left"
+    Path(other := f"{folder}/other.db").write_text("none")
+    assert backup("before-migration", "--db", other) == (0, "", ""), "no database"
+    os.unlink(other)
     for schema in ("9" * 5000, "\xb2", "01", ""):
         with contextlib.closing(sqlite3.connect(file)) as conn, conn:
             conn.execute("UPDATE meta SET val = ? WHERE word = 'schema'", (schema,))

@@ -57,7 +57,7 @@ def read_roots(text):
         left = KINDS[KINDS.index(kinds[-1]) if kinds else 0:-1] if at < sessions else KINDS[-1:]
         fits = [it for it in left if LABELS[it].fullmatch(line[1]) and (line > before or kinds[-1] != it)]
         if not fits:
-            raise ValueError(f"{line[1][:100]!r} is no root's label")
+            raise ValueError(f"{line[1]!r} is no root's label")
         kinds.append(fits[0])
     return [(kind, LABELS[kind].fullmatch(label).groups(), target.rpartition("/")[2])
             for kind, (target, label) in zip(kinds, lines)]
@@ -247,5 +247,4 @@ def fetch(source: objects.Store, program: str, table: dict, to: str) -> Done:
             raise Stop(f"failed: answer: {source}: it isn't that of a store: {str(error)[:200]}") from None
         finally:
             target.close()
-    backup_file.fold(to)
     return done

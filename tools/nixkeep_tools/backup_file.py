@@ -59,7 +59,7 @@ def words_of(program: str, config: str | None, *more: str) -> list[str]:
 
 def fresh(path: str, flags: int = os.O_WRONLY | os.O_CREAT | os.O_EXCL, folder: int | None = None) -> int:
     """The number of a new file that only its owner may read; none may be there. `folder` is an open one of a name."""
-    return os.open(path, flags | os.O_NOFOLLOW, 0o600, dir_fd=folder)
+    return os.open(path, flags, 0o600, dir_fd=folder)
 
 
 def create(path: str) -> None:
@@ -159,7 +159,7 @@ def test(path: str, config: str | None, program: str, wanted: str | None = None)
 def schema_of(path: str, despite_lock: bool = False) -> int | None:
     """The number of a file's schema, or None if there is no file, or no store in it."""
     # (Path.exists raises an error in a folder that the caller may not look at)
-    if not os.path.exists(path) or not os.path.getsize(path):
+    if not os.path.exists(path):
         return None
     with store_file.open_store(path, despite_lock) as conn:
         if "meta" not in store_file.tables_of(conn):

@@ -127,4 +127,4 @@ def read_state(path: str) -> dict:
 
 def write_state(path: str, **more: str | float) -> None:
     """Puts what a run did into the file that others watch, whole or not at all; what it doesn't name stays."""
-    whole_file.write(path, f"{json.dumps({**read_state(path), **more}, indent=2)}\n", 0o644)
+    whole_file.write(path, f"{json.dumps({**read_state(path), **more}, indent=2)}\n", 0o600)

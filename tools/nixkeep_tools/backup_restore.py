@@ -35,7 +35,7 @@ def alone(folder):
         return
     seen = os.stat(folder)
     lock = f"/run/nixkeep-restore-{seen.st_dev}-{seen.st_ino}.lock"
-    number = os.open(lock, os.O_RDWR | os.O_CREAT | os.O_NOFOLLOW, 0o600)
+    number = os.open(lock, os.O_RDWR | os.O_CREAT, 0o600)
     try:
         fcntl.flock(number, fcntl.LOCK_EX | fcntl.LOCK_NB)
         yield
