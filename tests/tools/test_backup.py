@@ -809,7 +809,8 @@ def test_a_copy_of_a_store_that_changes(store):
             assert came[0] == 0 and not steps
             wanted = all_of_server(place)
             is_the_copy(store, wanted)
-            os.unlink(f"{store.to}/{store.copies()[0]}")
+            for it in store.copies():
+                os.unlink(f"{store.to}/{it}")
             with contextlib.closing(place.connection()) as connection:
                 replace(asker(objects.Store(http_client.Server(place, {}, connection=connection), "", "")), b"first!")
             # (the same number of bytes, which no listing shows; and another one, once it was copied)
@@ -1002,7 +1003,7 @@ def test_what_can_t_be_put_back(store, good, monkeypatch):
 
     def link(name, *words, **more):
         tried.append(name)
-        if tried.count("store.db-wal") == 2:
+        if name == "store.db-wal" and tried.count(name) == 2:
             raise OSError(errno.EIO, "none")
         real["link"](name, *words, **more)
 

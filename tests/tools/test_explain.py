@@ -251,6 +251,54 @@ def test_no_path(path):
     says([path], f"{path}: {BAD_SCHEMA}: nixkeep opens no such path: *", 3)
 
 
+def test_a_lock_without_a_process(path):
+    """A lock of an open file belongs to no process, and is there until the file is closed."""
+    with open(path, "rb") as seen, open(path, "r+b") as held, open(path, "r+b") as other:
+        assert store_file.locker(seen) is None
+        assert store_file.lock(held.fileno()) and not store_file.lock(other.fileno())
+        assert store_file.locker(seen) == 0
+        with pytest.raises(store_file.Locked, match="is locked by another process$"), store_file.open_store(path):
+            pass
+    with open(path, "rb") as seen:
+        assert store_file.locker(seen) is None
+
+
+def log_head(magic, size):
+    """The head of a log: https://www.sqlite.org/fileformat2.html#the_write_ahead_log says how its sum is made."""
+    head, sums = struct.pack(">6I", magic, 3_007_000, size, 0, 1, 2), [0, 0]
+    words = struct.unpack(f"{'>' if magic & 1 else '<'}6I", head)
+    for at in range(0, 6, 2):
+        sums[0] = sums[0] + words[at] + sums[1] & 0xFFFFFFFF
+        sums[1] = sums[1] + words[at + 1] + sums[0] & 0xFFFFFFFF
+    return head + struct.pack(">2I", *sums)
+
+
+@pytest.mark.parametrize("magic, size, page", [
+    (0x377F0682, 4096, 4096), (0x377F0683, 512, 512), (0x377F0683, 65_536, 65_536), (0x377F0683, 256, None),
+    (0x377F0682, 131_072, None), (0x377F0682, 4095, None), (0x377F0682, 0, None), (0x377F0684, 4096, None)])
+def test_the_head_of_a_log(magic, size, page):
+    """By SQLite's description of the format."""
+    head = log_head(magic, size)
+    assert store_file.page_of_log(head) == page
+    assert store_file.page_of_log(head[:31]) is store_file.page_of_log(head[:31] + bytes([head[31] ^ 1])) is None
+
+
+def test_the_log_of_a_link(nixkeep, path, folder):
+    """It is next to the target of the link. What is no file there isn't waited for."""
+    os.mkdir(f"{folder}/links")
+    os.symlink(path, link := f"{folder}/links/store.db")
+    with contextlib.closing(sqlite3.connect(path)) as conn:
+        conn.execute("PRAGMA journal_mode = WAL")
+        conn.execute("DELETE FROM permanent")
+        conn.commit()
+        with store_file.open_store(link, despite_lock=True) as seen:
+            assert seen.execute("SELECT count(*) FROM permanent").fetchone() == (0,)
+    for make in (os.mkfifo, os.mkdir):
+        make(f"{path}-wal")
+        assert [*store_file.commits(link)] == []
+        (os.rmdir if make is os.mkdir else os.unlink)(f"{path}-wal")
+
+
 def test_a_journal(path):
     Path(f"{path}-journal").write_bytes(b"x")
     says([path], f"{path}: {BAD_SCHEMA}: another program stopped *", 3)

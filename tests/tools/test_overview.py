@@ -95,7 +95,7 @@ def ran(*words):
 
 
 def ran_in(limit, *words):
-    """Runs nixkeep-overview, which writes no file above so many KiB where there is a limit."""
+    """Runs nixkeep-overview, which writes no file above more KiB than the limit."""
     command = [COMMAND, *map(str, words)]
     return subprocess.run(servers.limited(command, *limit) if limit else command, capture_output=True, text=True)
 

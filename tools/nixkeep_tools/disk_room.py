@@ -8,8 +8,8 @@ LEFT = 64 << 20
 
 
 def demand(size: int, path: str, left: int = LEFT) -> None:
-    """Raises Stop where a disk has no room for so many bytes at a path, or fewer than `left` would be left then: too
-    few for a store to go on."""
+    """Raises Stop where the disk of a path has no room for `size` bytes and `left` more, which a store needs to go on.
+    """
     folder = os.path.dirname(os.path.abspath(path))
     seen = os.statvfs(folder)
     # (some file systems don't say how large they are)

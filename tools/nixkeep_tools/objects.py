@@ -234,7 +234,7 @@ class Store:
         return self.server.takes_large()
 
     def demand_room(self, size: int) -> None:
-        """Raises Stop where the disk of a database file has no room for so many bytes of archives. They first take what
+        """Raises Stop where the disk of a database file has no room for archives of `size` bytes. They first take what
         is unused inside the file. (Of a server's disk nothing is known.)"""
         if not self.child:
             return
