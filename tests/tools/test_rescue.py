@@ -198,6 +198,37 @@ def test_what_a_shell_obeys(at, folder, rng):
     assert came == ({"runtime"} if "IFS" in text or "/" in text else set())
 
 
+def restored(folder, program):
+    """The status of a script that was rescued, what it says of a failure, and whether it ran what it was to run."""
+    stand_in = Path(folder, "nixkeep")
+    stand_in.write_text(program)
+    stand_in.chmod(0o755)
+    done = subprocess.run(["sh", f"{folder}/out/restore", f"{folder}/new.db"], cwd=folder, capture_output=True,
+                          text=True, env={**os.environ, "NIXKEEP": str(stand_in)})
+    return done.returncode, done.stderr, Path(folder, "ran").exists()
+
+
+def test_the_name_of_a_file_and_a_program_that_fails(folder, path):
+    """The name is in a comment, and ends none. A script that doesn't import all sets no roots, and says so."""
+    name = f"{folder}/\ntouch ran\n$(touch ran)`touch ran`'.db"
+    os.rename(path, name)
+    with store_file.open_store(name) as conn:
+        count = len(store_file.read_objects(conn))
+    assert explained("--rescue", f"{folder}/out", name)[1:] == (0, "")
+    line = f"restore: 0 of {count} objects imported\n"
+    assert restored(folder, "#!/bin/sh\ncat >/dev/null\n") == (1, line, False)
+
+
+def test_a_rescue_of_no_object(folder):
+    """The script imports none."""
+    built, path = Built(), f"{folder}/one.db"
+    built.put_source("object", archive(b"contents of the one"), [])
+    put(path, built.rows(), ALL)
+    damage(path, b"contents of the one")
+    assert explained("--rescue", f"{folder}/out", path)[1:] == (3, "")
+    assert restored(folder, STAND_IN) == (0, "", False)
+
+
 def test_rescues_by_chance(rng, folder, many):
     """Whatever is damaged, what is written for an import is an object of the store as it was. Some damage is found, and
     some objects are written: else nothing was tried."""

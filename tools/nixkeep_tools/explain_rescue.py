@@ -35,7 +35,7 @@ answers=$(
 )
 imported=$(printf '%s\\n' "$answers" | grep -c '^HTTP' || true)
 if [ "$imported" -ne {count} ]; then
-  printf '%s\\n' "$answers" | grep -v '^HTTP' >&2 || true
+  printf '%s\\n' "$answers" | grep -v -e '^HTTP' -e '^$' >&2 || true
   echo "restore: $imported of {count} objects imported" >&2
   exit 1
 fi
