@@ -96,12 +96,12 @@ def place_of(tool: str) -> str | bool | None:
     return shutil.which(tool) or shutil.which(tool, path="/usr/sbin")
 
 
-# Sockets that have a port and don't listen, so that nobody else gets it, and the program that it is for may listen there.
+# Sockets that have a port and don't listen: nobody else gets it, and the program that it is for may listen there.
 RESERVED = []
 
 
 def free_port() -> int:
-    """A port that is nobody else's until this process ends, also while the program at it is started."""
+    """A port that is nobody else's until this process ends."""
     RESERVED.append(socket.socket())
     RESERVED[-1].setsockopt(socket.SOL_SOCKET, socket.SO_REUSEADDR, 1)
     RESERVED[-1].bind(("127.0.0.1", 0))

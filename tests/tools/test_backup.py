@@ -305,7 +305,7 @@ def test_a_log_of_a_copy(is_read, folder, monkeypatch):
 
 def test_a_long_copy_is_stopped(folder, monkeypatch):
     """A time limit is met while the pages are copied."""
-    large, to, sizes = f"{folder}/large.db", f"{folder}/new.db", []
+    large, to = f"{folder}/large.db", f"{folder}/new.db"
     with contextlib.closing(sqlite3.connect(large)) as conn, conn:
         conn.executescript("CREATE TABLE t (a); INSERT INTO t VALUES (zeroblob(60000000));")
     ring = lambda *_: (_ for _ in ()).throw(Stop("failed: time"))
