@@ -15,6 +15,7 @@ from typing import Any
 from aiohttp import helpers, http
 from aiohttp.http_exceptions import HttpProcessingError
 
+from . import cache_heads
 from .cache_archives import DIGITS, MINUTE, RECORD_KIND, Archives
 from .cache_ending import Ending
 from .cache_fair import Fair
@@ -47,12 +48,12 @@ def message(fields):
     """The head of a request with these fields, as aiohttp reads it; None where that isn't one head and nothing else."""
     if fields.find(END) != len(fields) - len(END):
         return None
-    parser = http.HttpRequestParser(asyncio.BaseProtocol(), None, 2**16)
+    heads = cache_heads.Heads(http.HttpRequestParser(asyncio.BaseProtocol(), None, 2**16))
     try:
-        found, is_upgrade, tail = parser.feed_data(b"GET / HTTP/1.1\r\n" + fields)
+        found, *_ = heads.feed_data(b"GET / HTTP/1.1\r\n" + fields)
     except HttpProcessingError:
         return None
-    is_one = len(found) == 1 and not is_upgrade and not tail
+    is_one = len(found) == 1 and not heads.held
     return found[0][0] if is_one and not any(it in found[0][0].headers for it in MORE) else None
 
 
@@ -119,6 +120,7 @@ class Connection(asyncio.Protocol):
     def leave(self, data: bytes) -> None:
         self.stop()
         other = self.others()
+        cache_heads.guard(other)
         self.transport.set_protocol(other)
         other.connection_made(self.transport)
         other.data_received(data)
