@@ -229,7 +229,7 @@ def test_an_idle_connection_is_closed(monkeypatch):
 def test_what_is_answered_at_once(change, is_answered):
     """What may be answered, as far as that is known, to a user who has a request left, and before the end."""
     async def run():
-        server, fair = cache_server.Server(None, 4), cache_fair.Fair(2)
+        server, fair = cache_server.Server(None, 4), cache_fair.Fair(4)
         server.reader = server.writer = types.SimpleNamespace(at_eof=lambda: False, is_closing=lambda: False)
         server.denials[ANN] = None
         archives = types.SimpleNamespace(text=b"text")

@@ -12,13 +12,14 @@ from collections.abc import Awaitable, Callable
 from aiohttp import HttpVersion10, HttpVersion11, web
 from aiohttp.http_exceptions import HttpProcessingError
 
-from . import blobs, blobs_command, cache_child, cache_health, cache_limit, cache_listening, cache_lists
-from . import cache_metrics, cache_options, cache_origin, cache_signing, overview_source, paths
+from . import blobs, blobs_command, cache_child, cache_limit, cache_listening, cache_lists, cache_options
+from . import cache_signing, overview_source
+from .cache_admission import admission, naming, reader
 from .cache_archives import Archives
-from .cache_at_once import AtOnce, Loop
+from .cache_at_once import FIRST, AtOnce, Loop
 from .cache_ending import FINISH, Ending
 from .cache_blobs import Blobs
-from .cache_fair import Fair
+from .cache_fair import MOST, Fair
 from .cache_http import BODY, Answered, Handler, Sending, alone, begins, forget, passed, reply, shown
 from .cache_large import Large
 from .cache_names import Names
@@ -40,21 +41,11 @@ from .notify import notify
 
 # The bytes of large replies that are in memory while clients take them.
 ROOM = 256 << 20
-# The part of the files that a process may open which one user's requests may have: each has a connection.
-PART = 4
+# The part of the files that a process may open which requests may have: each has a connection, and may have a file.
+PART = 2
 # The seconds after which a thread that reads something long leaves others their turn: clients wait for the first thread
 # at each step. Python's own are ten times as many.
 SWITCH = 0.0005
-
-
-def caller(request, fixed):
-    """Who asks, or None where that isn't said by one field and at most one group, as the server demands it."""
-    if fixed:
-        return fixed
-    users, groups = request.headers.getall("store-user", []), request.headers.getall("store-group", [])
-    if len(users) != 1 or len(groups) > 1 or not all(map(paths.is_plain_name, [*users, *groups])):
-        return None
-    return Caller(users[0], groups[0] if groups else None)
 
 
 def failures(idle: float) -> Callable[[web.Request, Handler], Awaitable[web.StreamResponse]]:
@@ -95,32 +86,6 @@ async def framed(request, handler):
     answer = reply(400, "refused: 37 bad-length\n" if is_known else "refused: 36 bad-head\n")
     answer.force_close()
     return answer
-
-
-def caller_of(request, fixed, is_local):
-    """Who asks to read, by the head of a request, or None where it is refused."""
-    return None if is_local and cache_origin.is_rebound(request) else caller(request, fixed)
-
-
-def admission(server, fixed, is_local, monitor):
-    """Nothing is answered, read or kept for a caller that may not connect to the store, nor for a foreign web page.
-    Anybody may ask whether it is well, and `monitor` for its figures."""
-
-    @web.middleware
-    async def admitted(request, handler):
-        if cache_health.is_asked(request):
-            return await handler(request)
-        if is_local and cache_origin.is_rebound(request) or cache_origin.is_of_other_site(request):
-            return reply(403, "denied: other-site\n")
-        who = caller(request, fixed)
-        if not who:
-            return reply(400, "refused: 20 bad-caller\n")
-        request["caller"] = who
-        is_monitor = monitor == who.user and cache_metrics.is_asked(request)
-        denial = None if is_monitor else await server.denial(who)
-        return reply(denial.status, denial.text) if denial else await handler(request)
-
-    return admitted
 
 
 def together(middlewares):
@@ -194,21 +159,22 @@ def parts_of(said, server, waiting, settings, signing, ends):
 
 async def application(said, server, waiting, settings, signing, is_local):
     fixed = Caller(said.user, said.group) if said.user else None
-    ending, admitted = Ending(), admission(server, fixed, is_local, said.monitor)
+    ending = Ending()
     parts, sessions, watched = parts_of(said, server, waiting, settings, signing, ending.begun)
-    most = resource.getrlimit(resource.RLIMIT_NOFILE)[0] // (1 if fixed else PART)
-    fair, watching = Fair(most), watched.watching
-    middlewares = [ending.counted, watching.observed, alone, framed, failures(said.idle), admitted, fair.counted]
+    files = resource.getrlimit(resource.RLIMIT_NOFILE)[0]
+    fair, watching = Fair(min(MOST, files // (1 if fixed else PART)), bool(fixed)), watched.watching
+    # (whoever waits to be admitted counts, too)
+    middlewares = [ending.counted, watching.observed, alone, framed, failures(said.idle), naming(fixed, is_local),
+                   fair.counted, admission(server, said.monitor)]
     # (a body is what came, as to the server: one that is unpacked ahead of its limits would fill the memory)
     made = web.Application(client_max_size=BODY, middlewares=[together(middlewares)],
-                           handler_args={"auto_decompress": False})
+                           handler_args={"auto_decompress": False, "read_bufsize": FIRST})
     made.router.add_route("*", "/{target:.*}", dispatched(parts))
     made.cleanup_ctx.extend([begun(server), expiring(waiting, sessions, watched.day)])
     made.on_response_prepare.append(begins)
     made.on_shutdown.append(ending.begin)
-    who = functools.partial(caller_of, fixed=fixed, is_local=is_local)
     archives = next(it for it in parts if isinstance(it, Archives))
-    asyncio.get_running_loop().at_once = AtOnce(who, server, archives, watching, fair, ending)
+    asyncio.get_running_loop().at_once = AtOnce(reader(fixed, is_local), server, archives, watching, fair, ending)
     return made
 
 

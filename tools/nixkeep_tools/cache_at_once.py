@@ -29,6 +29,8 @@ END = b"\r\n\r\n"
 LONGEST, HEADS = 4096, 1000
 # By these fields a request has more than a head, or asks for another protocol.
 MORE = ("content-length", "transfer-encoding", "expect", "upgrade")
+# The bytes that are received at once until a body is read: it may wait for its room, as those of a thousand others do.
+FIRST = 1 << 14
 # The seconds after which an idle connection is closed, as by aiohttp.
 IDLE = 75
 # What is read of a head: who asks, whether the connection ends with the reply, and the request as observers see it.
@@ -102,7 +104,7 @@ class Connection(asyncio.Protocol):
         self.until, self.timer = 0, None
 
     def connection_made(self, transport: asyncio.Transport) -> None:
-        self.transport = transport
+        self.transport, transport.max_size = transport, FIRST
         connected = transport.get_extra_info("socket")
         if connected is not None and connected.family != socket.AF_UNIX:
             connected.setsockopt(socket.SOL_SOCKET, socket.SO_KEEPALIVE, 1)

@@ -1,25 +1,41 @@
-"""How many requests of one user nixkeep-cache answers at once."""
+"""How many requests nixkeep-cache answers at once, or has waiting for that."""
 import collections
 
 from aiohttp import web
 
 from .cache_http import Handler, reply
 
+# The requests that there are at most. Each takes some memory, also while its body or its turn doesn't come.
+MOST = 1024
+# What a refused client is told, besides the text: the seconds after which it may try again.
+SOON = "1"
+
 
 class Fair:
-    """A user has at most this number of requests at once, since other users need connections, too."""
+    """At most `most` requests. One user has at most half of those that others leave, since other users need some, too;
+    or all where there `is_one` user."""
 
-    def __init__(self, most: int):
-        self.most, self.running = most, collections.Counter()
+    def __init__(self, most: int, is_one: bool = False):
+        self.most, self.parts, self.running = most, 1 if is_one else 2, collections.Counter()
 
     def is_full(self, user: str | None) -> bool:
-        return self.running[user] >= self.most
+        has = self.running[user]
+        return self.parts * (has + 1) > self.most - (self.running.total() - has)
+
+    def refused(self, user: str | None) -> web.Response:
+        """The reply to a request for which there is no room."""
+        if has := self.running[user]:
+            whose, status = f"{has} requests of {user}", 429
+        else:
+            whose, status = f"{self.running.total()} requests", 503
+        text = f"failed: busy {whose} are being answered: try again later\n"
+        return reply(status, text, **{"retry-after": SOON})
 
     @web.middleware
     async def counted(self, request: web.Request, handler: Handler) -> web.StreamResponse:
         user = getattr(request.get("caller"), "user", None)
         if self.is_full(user):
-            return reply(429, f"failed: busy {self.most} requests of {user} are being answered: try again later\n")
+            return self.refused(user)
         self.running[user] += 1
         try:
             return await handler(request)

@@ -91,6 +91,9 @@ async def of_client(request: web.Request, idle: float) -> AsyncIterator[None]:
 
 async def pieces(request: web.Request, idle: float) -> AsyncIterator[bytes]:
     """Yields the body piece by piece. Raises TimeoutError for a client that is silent for `idle` seconds."""
+    # (from here on the client may send as much at once as another one; see cache_at_once)
+    if request.transport:
+        request.transport.max_size = PIECE
     while True:
         async with of_client(request, idle):
             piece = await request.content.readany()
