@@ -108,7 +108,7 @@ def test_bodies_that_wait_take_little_memory(program, folder):
     """A body waits outside of the memory until it has room, but for its first bytes."""
     count = 300
     with stores(program, folder, "--proxied") as (made, _), contextlib.ExitStack() as held:
-        memory = lambda: store_size.resident(made.process.pid)
+        memory = lambda: store_size.resident(made.running.pid)
         before, clients = memory(), [held.enter_context(socket.socket(socket.AF_UNIX)) for _ in range(count)]
         head = b"POST /text HTTP/1.1\r\nhost: red\r\nstore-user: ann\r\ncontent-length: 20000000\r\n\r\n"
         for it in clients:
