@@ -262,8 +262,8 @@ def test_heads_of_uploads_that_wait_have_room():
 
     large = cache_large.Large(None, types.SimpleNamespace(server=None), 0, None, "/nix/store")
 
-    async def waits(caller, *_):
-        going_on.append(caller.user)
+    async def waits(request, *_):
+        going_on.append(request["caller"].user)
         await asyncio.sleep(60)
 
     async def trusts(_):
@@ -647,7 +647,7 @@ def test_a_large_import_is_in_memory_once():
     async def run(least):
         large = cache_large.Large(None, types.SimpleNamespace(server=None), least, None, "/nix/store")
         large.import_pieces = import_pieces
-        return await large.import_whole("ann", b"path: it\n\n" + archive)
+        return await large.import_whole(None, "ann", b"path: it\n\n" + archive)
 
     assert (asyncio.run(run(len(archive))), came) == (None, [])
     assert asyncio.run(run(len(archive) - 1)) == "done"

@@ -317,18 +317,18 @@ def test_the_limit_by_memory(folder, monkeypatch):
         assert store_size.memory() == 1 << 30, f"the least limit counts: {own}"
     Path(f"{folder}/cgroup/memory.max").unlink()
     Path(f"{folder}/own").write_text("0::/system.slice/store.service\n")
-    had, own = [3 << 29], [0]
+    had, own = [1_438_814_044], [0]
     limit = cache_limit.Limit(None, None, lambda: had[0], lambda: own[0])
     limit.check(1)
-    own[0] = 107_374_182
+    own[0] = 64_424_509
     limit.check(1)
     own[0] += 1
-    line = "failed: full the server and nixkeep-cache have 1717986919 of 2147483648 bytes of memory: drop roots, "
+    line = "failed: full the server and nixkeep-cache have 1503238554 of 2147483648 bytes of memory: drop roots, "
     with pytest.raises(cache_limit.Full, match=f"^{line}collect, and start it again\n$"):
         limit.check(1)
     own[0] = 0
     had[0] += 1
-    line = "failed: full the server has 1610612737 of 2147483648 bytes of memory: drop roots, collect, and start it"
+    line = "failed: full the server has 1438814045 of 2147483648 bytes of memory: drop roots, collect, and start it"
     with pytest.raises(cache_limit.Full, match=f"^{line} again\n$"):
         limit.check(1)
     had[0] = None

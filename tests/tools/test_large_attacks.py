@@ -297,7 +297,7 @@ def test_requests_that_never_end(team_of):
 def test_slow_uploads(rng, team_of):
     """The slow uploads of a user, and of two, hold up no upload of another one."""
     with team_of() as team, contextlib.ExitStack() as held:
-        for user, other, count in (("build", "carl", 8), ("carl", "dora", 10)):
+        for user, other, count in (("build", "carl", 2), ("carl", "dora", 3)):
             for _ in range(12):
                 archive = archive_of(rng)
                 name = nar.digest(archive)

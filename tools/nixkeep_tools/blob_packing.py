@@ -20,6 +20,9 @@ BEGIN = (13).to_bytes(8, "little") + b"nix-archive-1"
 # level 9.
 WINDOW, LATER, HEAD, OF_XZ = 32 << 20, 8 << 20, 18, 72 << 20
 
+# The memory in which an archive becomes a blob, besides that of its compression, and that in which it is unpacked.
+PACKING, UNPACKING = 32 << 20, {"none": 0, "xz": OF_XZ, "zstd": WINDOW}
+
 # `sent` is the SHA-256 of what came; the others are of the archive, and of its file in the blobs.
 Packed = collections.namedtuple("Packed", "sent nar_hash nar_size file_hash file_size")
 
@@ -168,6 +171,13 @@ def plain(source):
 
 
 UNPACKED = {"none": plain, "xz": of_xz, "zstd": of_zstd}
+
+
+def memory(compression: str, level: int) -> int:
+    """The bytes of memory in which an archive, compressed so, becomes a blob of this level."""
+    # (two threads compress, and what is between them; one that comes by zstd stays as it is)
+    given = zstandard.ZstdCompressionParameters.from_level(level).estimated_compression_context_size()
+    return PACKING + UNPACKING[compression] + (0 if compression == "zstd" else 3 * given)
 
 
 def packed(source: Source, compression: str, out: BinaryIO, level: int) -> Packed:

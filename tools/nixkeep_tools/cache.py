@@ -8,19 +8,20 @@ import resource
 import sqlite3
 import sys
 from collections.abc import Awaitable, Callable
+from concurrent.futures import ThreadPoolExecutor
 
 from aiohttp import HttpVersion10, HttpVersion11, web
 from aiohttp.http_exceptions import HttpProcessingError
 
 from . import blobs, blobs_command, cache_child, cache_limit, cache_listening, cache_lists, cache_options
-from . import cache_signing, overview_source
+from . import cache_signing, overview_source, store_size
 from .cache_admission import admission, naming, reader
 from .cache_archives import Archives
 from .cache_at_once import FIRST, AtOnce, Loop
 from .cache_ending import FINISH, Ending
 from .cache_blobs import Blobs
 from .cache_fair import MOST, Fair
-from .cache_http import BODY, Answered, Handler, Sending, alone, begins, forget, passed, reply, shown
+from .cache_http import BODY, ROOM, THREADS, Answered, Handler, Sending, alone, begins, forget, passed, reply, shown
 from .cache_large import Large
 from .cache_names import Names
 from .cache_overview import Overviews
@@ -39,8 +40,6 @@ from .cache_watched import Watched
 from .cache_who import Who
 from .notify import notify
 
-# The bytes of large replies that are in memory while clients take them.
-ROOM = 256 << 20
 # The part of the files that a process may open which requests may have: each has a connection, and may have a file.
 PART = 2
 # The seconds after which a thread that reads something long leaves others their turn: clients wait for the first thread
@@ -142,19 +141,20 @@ def parts_of(said, server, waiting, settings, signing, ends):
     for name in filter(stored.base, [*waiting.files]):
         waiting.use(name)
     sending, sessions = Sending(ROOM, said.idle), Sessions(server, f"{waiting.folder}/sessions", said.session_seconds)
-    limit = cache_limit.Limit(said.db, said.most_bytes, getattr(server.place, "memory", lambda: None))
-    overviews = Overviews(server, store, keeps, sending, overview_source.name_of(said.config, said.db))
+    own = lambda: store_size.resident() + cache_limit.LISTINGS * names.size
+    limit = cache_limit.Limit(said.db, said.most_bytes, getattr(server.place, "memory", lambda: None), own)
+    overviews = Overviews(server, store, keeps, sending, overview_source.name_of(said.config, said.db), left=limit.left)
     watched = Watched(said, server, waiting, limit, store)
     followers = [names.deleted, overviews.records.forget, shares.deleted, signing.deleted]
-    own = large_of(said, server, waiting.folder, sending, shares, store, ends)
-    large = own[0] if own else None
+    of_large = large_of(said, server, waiting.folder, sending, shares, store, ends)
+    large = of_large[0] if of_large else None
     uploads = Uploads(server, names, stored, waiting, sessions, signing, limit, shares, store, said.idle, large)
     passing = Passing(server, names, sessions, limit, shares, sending, followers, said.idle)
     if large:
         large.uploads, large.passing = uploads, passing
-        watched.watch_blobs(large.blobs, own[1])
+        watched.watch_blobs(large.blobs, of_large[1])
     archives = Archives(server, names, stored, waiting, sessions, signing, sending, store, large)
-    return [*own, archives, uploads, overviews, Who(server), *watched.parts(), passing], sessions, watched
+    return [*of_large, archives, uploads, overviews, Who(server), *watched.parts(), passing], sessions, watched
 
 
 async def application(said, server, waiting, settings, signing, is_local):
@@ -174,7 +174,9 @@ async def application(said, server, waiting, settings, signing, is_local):
     made.on_response_prepare.append(begins)
     made.on_shutdown.append(ending.begin)
     archives = next(it for it in parts if isinstance(it, Archives))
-    asyncio.get_running_loop().at_once = AtOnce(reader(fixed, is_local), server, archives, watching, fair, ending)
+    loop = asyncio.get_running_loop()
+    loop.set_default_executor(ThreadPoolExecutor(THREADS, "archives"))
+    loop.at_once = AtOnce(reader(fixed, is_local), server, archives, watching, fair, ending)
     return made
 
 

@@ -21,12 +21,11 @@ from .cache_counts import Count
 from .cache_http import Sending, forget, of_client, reply, shown
 from .cache_places import Places
 from .cache_records import Bad
-from .cache_room import Held, demand_client
+from .cache_room import Held, Room, demand_client
 from .pointers import Pointer
 
-# The archives that come at once, those of one user, those that are left for users who have none, and the threads that
-# read blobs.
-COMING, EACH, LEFT, READING = 12, 8, 2, 16
+# The bytes of memory in which all archives that come at once become blobs, and the threads that read blobs.
+COMING, READING = 192 << 20, 16
 # The replies that take much of a processor for each byte which is sent, at once, those of one user, and those that are
 # left for users who have none: archives that are compressed by xz, and parts up to which an archive has to be unpacked.
 DEAR = 6, 2, 2
@@ -52,8 +51,8 @@ class Blobs:
 
     def __init__(self, place: blobs.Place, level: int, sending: Sending, ends: asyncio.Event | None = None):
         self.place, self.level, self.sending, self.ends = place, level, sending, ends
-        self.coming, self.dear, self.locks = Places(COMING, EACH, LEFT), Places(*DEAR), weakref.WeakValueDictionary()
-        self.threads = ThreadPoolExecutor(COMING + READING, "blobs")
+        self.coming, self.dear, self.locks = Room(COMING), Places(*DEAR), weakref.WeakValueDictionary()
+        self.threads = ThreadPoolExecutor(COMING // blob_packing.PACKING + READING, "blobs")
         self.relied, self.seen, self.put, self.sent, self.asking = {}, {}, Count(), Count(), None
 
     async def apart(self, work: Callable, *words: Any) -> Any:
@@ -115,12 +114,13 @@ class Blobs:
     # ---- archives that come
 
     @contextlib.asynccontextmanager
-    async def taken(self, user: str, compression: str,
+    async def taken(self, request: web.Request, compression: str,
                     pieces: AsyncIterable[bytes]) -> AsyncIterator[tuple[str, Packed]]:
-        """A file with the blob of an archive that comes in pieces, and its Packed. Raises Bad, Full or OSError. Slow
-        uploads of some users leave room for those of others."""
+        """A file with the blob of an archive that comes in pieces, and its Packed, once there is room for it. Raises
+        Bad, Left, Full or OSError."""
         part = self.place.part()
-        async with self.coming.taken(user):
+        async with self.coming.taken(request, blob_packing.memory(compression, self.level)) as held:
+            pieces = moving(pieces, held)
             try:
                 with self.put.timed():
                     with open(part, "xb", opener=lambda name, flags: os.open(name, flags, 0o600)) as out:
@@ -263,6 +263,15 @@ class Blobs:
                 raise ConnectionResetError("the client has closed its connection")
             held.moved()
         return piece
+
+
+async def moving(pieces: AsyncIterable[bytes], held: Held) -> AsyncIterator[bytes]:
+    """Yields pieces. Their client has its turn while the next one is waited for, and at no other time."""
+    async for it in pieces:
+        held.is_safe = True
+        yield it
+        held.moved()
+    held.is_safe = True
 
 
 def closed(given):

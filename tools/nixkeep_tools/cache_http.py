@@ -22,6 +22,8 @@ BODY = 20_971_520
 # The bytes from which on a reply, or what is read, counts as large, and the bytes of a reply that are sent at once. And
 # those from which on a body needs room: a user may have thousands that wait for one another.
 LARGE, PIECE, SMALL = 65_536, 1 << 18, 4096
+# The bytes of replies that are in memory while clients take them, and the threads that unpack and compress.
+ROOM, THREADS = 160 << 20, 4
 # The room that a reply has while the server makes it, which may be an archive.
 UNKNOWN = nar.LIMIT
 

@@ -95,12 +95,12 @@ class Large:
         self.blobs.relied[digest] = time.time()
         return await self.blobs.size(digest) is not None
 
-    async def take(self, caller: Caller, name: str, given: AsyncIterable[bytes]) -> None:
+    async def take(self, request: web.Request, name: str, given: AsyncIterable[bytes]) -> None:
         """Makes an archive that comes in pieces a blob, which waits for its record. Raises Bad."""
-        digits = cache_records.file_named(name)
+        digits, caller = cache_records.file_named(name), request["caller"]
         await self.demand_trust(caller)
         compression = next(key for key, it in cache_records.SUFFIXES.items() if name.endswith(f".nar{it}"))
-        async with self.blobs.taken(caller.user, compression, given) as (part, made):
+        async with self.blobs.taken(request, compression, given) as (part, made):
             if paths.base32(made.sent) != digits:
                 raise Bad(f"nar/{name} has another SHA-256: {paths.nar_hash(made.sent)}")
             self.arrived.add(name, word_of(await self.kept(caller, part, made)))
@@ -111,7 +111,7 @@ class Large:
         self.uploads.shares.add(caller.user, paths.base32(made.nar_hash), made.file_size)
         return made
 
-    async def is_large(self, caller: Caller, name: str, record: dict[str, str], waiting: Waiting) -> bool:
+    async def is_large(self, request: web.Request, name: str, record: dict[str, str], waiting: Waiting) -> bool:
         """Whether the archive of a record is a blob. One that waits as a file becomes one, if it unpacks to more than
         the store itself keeps."""
         if await self.is_arrived(name):
@@ -121,7 +121,7 @@ class Large:
             raise Bad(f"NarSize: {size[:100]}: a number is meant")
         if name not in waiting.files or int(size) <= self.least:
             return False
-        await self.take(caller, name, waiting.pieces(name))
+        await self.take(request, name, waiting.pieces(name))
         return True
 
     async def recorded(self, caller: Caller, name: str, record: dict[str, str], head: bytes) -> web.Response:
@@ -157,7 +157,7 @@ class Large:
     async def import_(self, request: web.Request) -> web.StreamResponse:
         """The store's own import. A large archive becomes a blob."""
         if (request.content_length or 0) <= BODY:
-            return await self.passing.request(request, self.import_whole)
+            return await self.passing.request(request, functools.partial(self.import_whole, request))
         await self.demand_trust(request["caller"])
         given = pieces(request, self.passing.idle)
         # (the head is in memory until the last piece, and an upload may wait for others)
@@ -168,9 +168,9 @@ class Large:
             self.passing.coming.resize(held, len(head) + len(first))
             held.is_safe = True
             cache_changes.note(request, head)
-            return await self.import_pieces(request["caller"], head, again(first, given), request.content_length)
+            return await self.import_pieces(request, head, again(first, given), request.content_length)
 
-    async def import_whole(self, caller, given):
+    async def import_whole(self, request, _, given):
         """The reply to an import with a large archive, or None for another one, which the store does. Raises
         Answered."""
         end = given.find(b"\n\n") + 2
@@ -178,7 +178,7 @@ class Large:
         # (20 MB are in memory once)
         if end > 1 and size > self.least:
             parts = (given[at : at + PIECE] for at in range(end, len(given), PIECE))
-            return await self.import_pieces(caller, head, coming(parts), len(given))
+            return await self.import_pieces(request, head, coming(parts), len(given))
         if end > 1 and size == pointers.SIZE:
             self.refuse_pointer(said(head, "ca"), said(head, "path"), given[end:])
         return None
@@ -188,22 +188,23 @@ class Large:
         if not address and pointers.read(archive, paths.full(path.rpartition("/")[2], self.store)):
             raise Answered(reply(403, POINTER))
 
-    async def import_pieces(self, caller, head, given, size):
+    async def import_pieces(self, request, head, given, size):
+        caller = request["caller"]
         try:
             base = paths.base_name(said(head, "path"), self.store)
         except paths.Malformed as malformed:
             return reply(400, f"{malformed}\n")
         await self.demand_trust(caller)
         with self.uploads.shares.room(caller.user, size):
-            made = await self.import_blob(caller, head, given)
+            made = await self.import_blob(request, head, given)
         return await self.imported(caller, base, head, made)
 
-    async def import_blob(self, caller, head, given):
+    async def import_blob(self, request, head, given):
         """Makes the archive of an import a blob."""
-        async with self.blobs.taken(caller.user, "none", given) as (part, made):
+        async with self.blobs.taken(request, "none", given) as (part, made):
             if said(head, "nar-hash") != paths.nar_hash(made.nar_hash):
                 raise Answered(reply(400, MISMATCH))
-            return await self.kept(caller, part, made)
+            return await self.kept(request["caller"], part, made)
 
     # ---- what is served
 

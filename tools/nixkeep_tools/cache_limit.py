@@ -11,8 +11,27 @@ ACCEPTED, WARNED = 0.6, 0.8
 ROOTS = 0.05
 # The part of the memory that a server may have before it takes nothing more: its next start needs a fifth more, and
 # many small rows need much more than their bytes in the file. And the part that it may have together with this process,
-# which has the names of all objects, and records: the rest is for listings of them, and for archives.
-HAD, TOGETHER = 0.75, 0.8
+# which has the names of all objects, records and figures, and with what listings of all objects take.
+#
+# The rest is for what requests have in memory, and has to be more than the sum of these, which is of the unit's limit
+# (packaging/nixkeep@.service), and which tests/tools/test_cache_memory.py makes again:
+#
+#   replies and readers                    cache_http.ROOM
+#   replies that are compressed meanwhile  cache_http.THREADS, each as long as an archive
+#   a reply as it is read                  two archives
+#   bodies                                 cache_passing.COMING, and two of them once more: as one is put together, and
+#                                          as the server has it
+#   records                                cache_uploads.RECORDS
+#   archives that are unpacked             cache_uploads.MANY, of UNPACKED each
+#   large archives that come               cache_blobs.COMING
+#   requests that wait                     cache_fair.MOST, of EACH each
+#   the server                             SERVER copies of one archive
+HAD, TOGETHER = 0.67, 0.7
+# The copies of one archive that a server has for a request: as it came, as it is in the database, and as a reply.
+SERVER = 4
+# How many times a listing of all objects may be in memory, of both processes: as the server makes it, as it comes, and
+# as those have it who asked for one: for names, for a client, for pointers and for the overview.
+LISTINGS = 6
 # The seconds between two looks at the file, and between two warnings.
 LOOK, AGAIN = 1, 3600
 
@@ -61,6 +80,11 @@ class Limit:
     def is_near(self) -> bool:
         """Whether the file is nearly as large as it may be."""
         return self.most is not None and self.used > WARNED * self.most
+
+    def left(self) -> int | None:
+        """The bytes of memory that are left for what lasts, such as figures; None where the server's aren't known."""
+        has = self.had()
+        return max(0, int(TOGETHER * self.memory) - has - self.own()) if has else None
 
     def figures(self) -> tuple[int | None, int | None]:
         """The bytes of the file, and its limit; each None where it isn't known."""

@@ -5,6 +5,9 @@ from collections.abc import Callable, Iterable, Iterator
 
 from .cache_server import Caller, Reply, Server, bases_in
 
+# The bytes of a line of a listing besides a base name, where the store's directory is that of Nix.
+LINE = len("/nix/store/\n")
+
 
 class Names:
     """The base names of the store's paths.
@@ -18,6 +21,8 @@ class Names:
     def __init__(self, server: Server, every: float, followers: Iterable[Callable[[Iterator[str]], object]] = ()):
         self.server, self.every, self.followers = server, every, followers
         self.bases, self.twins, self.connection, self.listed, self.listing = {}, set(), None, 0, None
+        # The bytes of a listing of all paths.
+        self.size = 0
 
     async def base(self, caller: Caller, digits: str) -> tuple[str | None, Reply | None]:
         """The first base name with these digits or None, and the reply of a server that doesn't list its paths or
@@ -42,6 +47,7 @@ class Names:
         self.bases.clear()
         self.twins.clear()
         self.added(reply.text)
+        self.size = len(reply.text)
         for it in self.followers:
             it(bases_in(reply.text))
         self.connection, self.listed = self.server.connections, time.monotonic()
@@ -50,7 +56,9 @@ class Names:
     def added(self, text: bytes) -> None:
         """Follows a reply that names paths which are there, one a line."""
         for base in bases_in(text):
+            count = len(self.bases)
             other = self.bases.setdefault(base[:32], base)
+            self.size += LINE + len(base) if len(self.bases) > count else 0
             if other != base:
                 self.bases[base[:32]] = min(base, other)
                 self.twins.add(base[:32])
@@ -59,6 +67,6 @@ class Names:
         """Follows a reply that names the paths which have been deleted, one a line."""
         for base in bases_in(text):
             digits = base[:32]
-            self.bases.pop(digits, None)
+            self.size -= LINE + len(base) if self.bases.pop(digits, None) else 0
             if digits in self.twins:
                 self.connection = None

@@ -22,19 +22,21 @@ PAGE = re.compile(r"/overview(\?.*)?")
 # The seconds for which figures are kept, and the users whose figures are. A page says of when it is.
 FRESH, USERS = 5, 8
 # The objects times the roots of a store for which figures are made: each object has a bit for each root in memory. And
-# the objects, which have some 2 KB each, with what was read of them.
-MOST, OBJECTS = 1 << 30, 250_000
+# the objects, and the bytes that each has with what was read of it.
+MOST, OBJECTS, EACH = 1 << 30, 250_000, 2000
 # The threads that make figures and pages.
 THREADS = 2
 
 
 class Overviews:
     """Figures are made once for all who ask meanwhile, and one at a time. A client waits for them for `longest`
-    seconds. `name` is what people call the store."""
+    seconds. `name` is what people call the store, and `left` returns the bytes of memory that figures may take, or
+    None."""
 
     def __init__(self, server: Server, store: str, keeps: Sequence[bool], sending: Sending, name: str | None,
-                 longest: float = 60):
+                 longest: float = 60, left: Callable[[], int | None] = lambda: None):
         self.store, self.keeps, self.sending, self.name, self.longest = store, keeps, sending, name, longest
+        self.left = left
         self.records, self.turn, self.made = overview_source.Records(server, keeps[0], OBJECTS), asyncio.Lock(), {}
         # (threads of its own, since archives need the others; and one page at a time, for which users take turns)
         self.threads, self.pages = ThreadPoolExecutor(THREADS, "overview"), Turns()
@@ -82,6 +84,7 @@ class Overviews:
 
     async def make(self, caller: Caller) -> overview.Overview:
         async with self.turn:
+            self.records.most = self.most_objects()
             try:
                 store, live = await self.records.store(caller)
             except overview_source.TooMany as many:
@@ -89,9 +92,15 @@ class Overviews:
             self.make_room(len(store.objects), len(store.roots))
             return await self.apart(overview.Overview, store, *self.keeps, live)
 
+    def most_objects(self) -> int:
+        """The objects of which there may be figures: those that were read before are in memory already."""
+        left = self.left()
+        return OBJECTS if left is None else min(OBJECTS, len(self.records.objects) + left // EACH)
+
     def make_room(self, objects: int, roots: int) -> None:
         """Forgets the figures of others where those of one user take much. Raises Answered where they take too much."""
-        if objects * roots > MOST:
+        left = self.left()
+        if objects * roots > min(MOST, MOST if left is None else 8 * left):
             text = f"the overview of {objects} objects and {roots} roots takes too much memory: drop roots\n"
             raise Answered(reply(503, text))
         if objects * roots > MOST // USERS:

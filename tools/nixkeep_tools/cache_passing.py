@@ -20,7 +20,7 @@ ADDS = ("/text", "/source", "/import")
 # What is answered with much: archives and their listings, and those of all of the store, which may have hundreds of MB.
 MUCH, ALL = re.compile(r"/(nar|ls)/.*"), re.compile(r"/(paths|live|dead|roots)")
 # The bytes of large bodies that are in memory.
-COMING = 8 * BODY
+COMING = 5 * BODY
 # What makes the store larger in another way.
 GROWS = re.compile(r"/(root|profile|temp)/.*|/runtime")
 # What may answer a request by its caller and its body; None leaves it to the store.

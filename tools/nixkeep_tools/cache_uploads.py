@@ -8,7 +8,7 @@ from aiohttp import web
 
 from . import cache_changes, cache_records, cache_waiting
 from .cache_archives import RECORD
-from .cache_http import LARGE, SMALL, UNKNOWN, Route, body, passed, pieces, reply
+from .cache_http import LARGE, SMALL, Route, body, passed, pieces, reply
 from .cache_large import Large
 from .cache_limit import Limit
 from .cache_names import Names
@@ -23,9 +23,11 @@ from .cache_turns import Turns
 
 # The longest record: as many references as an object may have, each of a long name.
 INFO = 1_200_000
-# The archives that are unpacked at once, the bytes of records in memory, and how many times one is there: as it came,
+# The archives that are unpacked at once, and the bytes that each has in memory: its file, the archive with what it is
+# unpacked in, and once more with its head. The bytes of records in memory, and how many times one is there: as it came,
 # its fields, and the head of an import.
-MANY, RECORDS, TIMES = 8, 64 << 20, 3
+MANY, UNPACKED = 3, 56 << 20
+RECORDS, TIMES = 32 << 20, 3
 ARCHIVE, OTHER = re.compile(r"/nar/(.*)"), re.compile(r".*")
 
 
@@ -35,7 +37,7 @@ class Uploads:
         self.server, self.names, self.stored, self.waiting = server, names, stored, waiting
         self.sessions, self.signing, self.limit, self.shares = sessions, signing, limit, shares
         self.store, self.idle = store, idle
-        self.unpacking, self.large = Room(MANY * UNKNOWN), large
+        self.unpacking, self.large = Room(MANY * UNPACKED), large
         self.records, self.reading = Room(RECORDS), Turns()
 
     def routes(self) -> list[Route]:
@@ -47,7 +49,7 @@ class Uploads:
         size = cache_waiting.LONGEST if request.content_length is None else request.content_length
         with self.shares.room(request["caller"].user, size):
             if self.large and size > self.large.least:
-                await self.large.take(request["caller"], name, pieces(request, self.idle))
+                await self.large.take(request, name, pieces(request, self.idle))
                 return reply(201, "")
             self.limit.check(size)
             await self.waiting.take(request["caller"].user, name, size, pieces(request, self.idle))
@@ -75,10 +77,10 @@ class Uploads:
         cache_changes.note(request, f"path: {record['StorePath']}\n\n".encode())
         name, base = cache_records.file_of(record), record["StorePath"].rpartition("/")[2]
         head = await self.read(caller.user, lambda _: cache_records.import_head(record, digits, self.store), text)
-        if self.large and await self.large.is_large(caller, name, record, self.waiting):
+        if self.large and await self.large.is_large(request, name, record, self.waiting):
             answer = await self.large.recorded(caller, name, record, head)
         else:
-            async with self.unpacking.taken(request, UNKNOWN, True):
+            async with self.unpacking.taken(request, UNPACKED, True):
                 answer = passed(await self.small(caller, name, base, head))
         if answer.status == 200:
             self.signing.uploaded(text)

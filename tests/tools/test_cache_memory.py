@@ -1,0 +1,126 @@
+"""Tests of the memory that nixkeep-cache and its server take at the worst: all that requests may have at once fits beside
+the largest store that takes adds."""
+import os
+import re
+import subprocess
+from pathlib import Path
+
+import pytest
+
+from nixkeep_dev.build.program import HERE
+from nixkeep_tools import cache_blobs, cache_fair, cache_http, cache_limit, cache_names, cache_overview, cache_passing
+from nixkeep_tools import blob_packing, cache_uploads, nar, store_size
+from parts import TOOLS
+
+pytestmark = pytest.mark.needs("python3-aiohttp", "python3-zstandard")
+UNIT = Path(f"{HERE}/packaging/nixkeep@.service").read_text()
+MEMORY = int(re.search(r"^MemoryMax=(\d+)G$", UNIT, re.M)[1]) << 30
+# Makes an archive of 16 MB, or a larger one, in a file; half of it can't be compressed.
+MAKE = """import lzma, os, sys, zstandard
+from nixkeep_tools.blob_packing import BEGIN
+file, size, compression = sys.argv[1], int(sys.argv[2]), sys.argv[3]
+data = BEGIN + os.urandom(size // 2)
+data += bytes(size - len(data))
+if compression == "xz":
+    data = lzma.compress(data, filters=[{"id": lzma.FILTER_LZMA2, "preset": 0, "dict_size": 64 << 20}])
+if compression == "zstd":
+    level = zstandard.ZstdCompressionParameters.from_level(1, window_log=25)
+    made = zstandard.ZstdCompressor(compression_params=level).compressobj()
+    data = made.compress(data) + made.flush()
+open(file, "wb").write(data)
+"""
+# Does some work, and prints the bytes of memory that it took besides what was there.
+TOOK = """import re, sys
+from nixkeep_tools import blob_packing, cache_records
+memory = lambda key: 1024 * int(re.search(rf"Vm{key}:\\s*(\\d+)", open("/proc/self/status").read())[1])
+before, file, name = memory("RSS"), sys.argv[1], sys.argv[2]
+%s
+print(memory("HWM") - before)
+"""
+SMALL = """data = open(file, "rb").read()
+archive = cache_records.unpacked(name, data)
+del data
+given = bytes(1_000_000) + archive"""
+LARGE = """with open(file, "rb") as given, open(f"{file}.blob", "wb") as out:
+    blob_packing.packed(given, name, out, 1)"""
+
+
+def ran(code, *words):
+    """What Python prints, with the memory of malloc as the unit has it."""
+    environment = {**os.environ, **dict(re.findall(r"^Environment=(\w+)=(.*)$", UNIT, re.M)), "PYTHONPATH": TOOLS}
+    words = ["/usr/bin/python3", "-B", "-c", code, *map(str, words)]
+    return subprocess.run(words, check=True, capture_output=True, text=True, env=environment).stdout
+
+
+def test_the_sum():
+    """Each term is what so many have at once, in the bytes that each may have."""
+    terms = {
+        "replies and readers": cache_http.ROOM,
+        "replies that are compressed": cache_http.THREADS * nar.LIMIT,
+        "a reply as it is read": 2 * nar.LIMIT,
+        "bodies": cache_passing.COMING + 2 * cache_http.BODY,
+        "records": cache_uploads.RECORDS,
+        "archives that are unpacked": cache_uploads.MANY * cache_uploads.UNPACKED,
+        "large archives": cache_blobs.COMING,
+        "requests that wait": cache_fair.MOST * cache_fair.EACH,
+        "the server": cache_limit.SERVER * nar.LIMIT,
+    }
+    assert cache_limit.TOGETHER * MEMORY + sum(terms.values()) <= MEMORY, terms
+    assert cache_uploads.MANY <= cache_http.THREADS
+
+
+def test_the_largest_store_takes_adds():
+    """A server that has opened the largest file that is accepted has less than the part from which on nothing is."""
+    file = cache_limit.ACCEPTED * store_size.opened_with(MEMORY)
+    opened = file + store_size.CACHE + store_size.REST
+    assert opened < cache_limit.HAD * MEMORY < cache_limit.TOGETHER * MEMORY
+    assert opened + (100 << 20) < cache_limit.TOGETHER * MEMORY, "with what nixkeep-cache has without requests"
+
+
+@pytest.mark.parametrize("compression, suffix", [("none", ""), ("xz", ".xz"), ("zstd", ".zst")])
+def test_an_archive_that_is_unpacked(folder, compression, suffix):
+    """The longest archive of the store, in what asks for most memory."""
+    ran(MAKE, file := f"{folder}/file", nar.LIMIT, compression)
+    assert int(ran(TOOK % SMALL, file, f"{'0' * 52}.nar{suffix}")) <= cache_uploads.UNPACKED
+
+
+@pytest.mark.parametrize("compression", blob_packing.UNPACKED)
+def test_a_large_archive(folder, compression):
+    """It takes as much room as memory, whatever its size."""
+    ran(MAKE, file := f"{folder}/file", 100 << 20, compression)
+    took = int(ran(TOOK % LARGE, file, compression))
+    assert took <= blob_packing.memory(compression, 1) <= cache_blobs.COMING
+
+
+def test_listings_count():
+    """A listing of all objects is in memory several times, so its length counts with what lasts: for objects with names
+    of one character, and with the longest."""
+    for length in (1, 211):
+        lines = [b"/nix/store/%032d-%s\n" % (at, b"x" * length) for at in range(100)]
+        names = cache_names.Names(None, 30)
+        names.added(b"".join(lines))
+        assert names.size == len(b"".join(lines))
+        names.added(b"".join(lines[:50]))
+        names.deleted(b"".join(lines[10:30]) + b"freed 20 paths 20 bytes\n")
+        assert names.size == len(b"".join(lines)) * 8 // 10
+
+
+def test_figures_take_what_is_left(monkeypatch):
+    """An overview is made where there is memory for its objects and its roots, besides those that were read before."""
+    left = [cache_overview.EACH * 10]
+    overviews = cache_overview.Overviews(None, "/nix/store", (False, True), None, None, left=lambda: left[0])
+    assert overviews.most_objects() == 10
+    overviews.records.objects = dict.fromkeys(range(5))
+    assert overviews.most_objects() == 15
+    overviews.make_room(400, 400)
+    with pytest.raises(cache_http.Answered, match="too much memory"):
+        overviews.make_room(401, 400)
+    left[0] = 1 << 40
+    assert overviews.most_objects() == cache_overview.OBJECTS
+    with pytest.raises(cache_http.Answered, match="too much memory"):
+        overviews.make_room(1 << 15, 1 + (1 << 15))
+    monkeypatch.setattr(cache_limit, "TOGETHER", 0.5)
+    limit = cache_limit.Limit(None, None, lambda: 100, lambda: 50)
+    limit.memory = 400
+    assert limit.left() == 50
+    assert cache_limit.Limit(None, None).left() is None, "of a server that is elsewhere nothing is known"
