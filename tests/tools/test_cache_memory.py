@@ -1,5 +1,5 @@
-"""Tests of the memory that nixkeep-cache and its server take at the worst: all that requests may have at once fits beside
-the largest store that takes adds."""
+"""Tests of the memory that nixkeep-cache and its server take at the worst: all that requests may have at once fits
+beside the largest store that takes adds."""
 import os
 import re
 import subprocess
@@ -84,7 +84,7 @@ def test_an_archive_that_is_unpacked(folder, compression, suffix):
     assert int(ran(TOOK % SMALL, file, f"{'0' * 52}.nar{suffix}")) <= cache_uploads.UNPACKED
 
 
-@pytest.mark.parametrize("compression", blob_packing.UNPACKED)
+@pytest.mark.parametrize("compression", blob_packing.UNPACKING)
 def test_a_large_archive(folder, compression):
     """It takes as much room as memory, whatever its size."""
     ran(MAKE, file := f"{folder}/file", 100 << 20, compression)

@@ -17,11 +17,12 @@ from . import blobs, blobs_command, cache_child, cache_limit, cache_listening, c
 from . import cache_signing, overview_source, store_size
 from .cache_admission import admission, naming, reader
 from .cache_archives import Archives
-from .cache_at_once import FIRST, AtOnce, Loop
+from .cache_at_once import AtOnce, Loop
 from .cache_ending import FINISH, Ending
 from .cache_blobs import Blobs
 from .cache_fair import MOST, Fair
-from .cache_http import BODY, ROOM, THREADS, Answered, Handler, Sending, alone, begins, forget, passed, reply, shown
+from .cache_http import BODY, FIRST, ROOM, THREADS, Answered, Handler, Sending, alone, begins, forget, passed, reply
+from .cache_http import shown
 from .cache_large import Large
 from .cache_names import Names
 from .cache_overview import Overviews

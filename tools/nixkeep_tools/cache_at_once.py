@@ -19,18 +19,15 @@ from . import cache_heads
 from .cache_archives import DIGITS, MINUTE, RECORD_KIND, Archives
 from .cache_ending import Ending
 from .cache_fair import Fair
-from .cache_http import LARGE
+from .cache_http import FIRST, LARGE
 from .cache_server import Caller, Server
 from .cache_watching import Seen, Watching
 
 LINE = re.compile(rf"GET /({DIGITS}{{32}})\.narinfo HTTP/1\.1".encode())
-END = b"\r\n\r\n"
 # The bytes of a head that is read here, and the heads that are remembered, since clients send the same fields again.
 LONGEST, HEADS = 4096, 1000
 # By these fields a request has more than a head, or asks for another protocol.
 MORE = ("content-length", "transfer-encoding", "expect", "upgrade")
-# The bytes that are received at once until a body is read: it may wait for its room, as those of a thousand others do.
-FIRST = 1 << 14
 # The seconds after which an idle connection is closed, as by aiohttp.
 IDLE = 75
 # What is read of a head: who asks, whether the connection ends with the reply, and the request as observers see it.
@@ -48,8 +45,6 @@ class Asked(dict):
 
 def message(fields):
     """The head of a request with these fields, as aiohttp reads it; None where that isn't one head and nothing else."""
-    if fields.find(END) != len(fields) - len(END):
-        return None
     heads = cache_heads.Heads(http.HttpRequestParser(asyncio.BaseProtocol(), None, 2**16))
     try:
         found, *_ = heads.feed_data(b"GET / HTTP/1.1\r\n" + fields)

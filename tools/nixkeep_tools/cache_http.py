@@ -3,6 +3,7 @@ import asyncio
 import collections
 import contextlib
 import sys
+import types
 from collections.abc import AsyncIterator, Awaitable, Callable
 
 from aiohttp import web
@@ -24,6 +25,9 @@ BODY = 20_971_520
 LARGE, PIECE, SMALL = 65_536, 1 << 18, 4096
 # The bytes of replies that are in memory while clients take them, and the threads that unpack and compress.
 ROOM, THREADS = 160 << 20, 4
+# The bytes that are received at once, but for a body that is read: it may wait for its room, as those of a thousand
+# others do.
+FIRST = 1 << 14
 # The room that a reply has while the server makes it, which may be an archive.
 UNKNOWN = nar.LIMIT
 
@@ -93,15 +97,17 @@ async def of_client(request: web.Request, idle: float) -> AsyncIterator[None]:
 
 async def pieces(request: web.Request, idle: float) -> AsyncIterator[bytes]:
     """Yields the body piece by piece. Raises TimeoutError for a client that is silent for `idle` seconds."""
-    # (from here on the client may send as much at once as another one; see cache_at_once)
-    if request.transport:
-        request.transport.max_size = PIECE
-    while True:
-        async with of_client(request, idle):
-            piece = await request.content.readany()
-        if not piece:
-            return
-        yield piece
+    transport = request.transport or types.SimpleNamespace()
+    transport.max_size = PIECE
+    try:
+        while True:
+            async with of_client(request, idle):
+                piece = await request.content.readany()
+            if not piece:
+                return
+            yield piece
+    finally:
+        transport.max_size = FIRST
 
 
 async def body(request: web.Request, most: int, idle: float, held: Held | None = None) -> bytes | None:
