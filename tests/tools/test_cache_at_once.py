@@ -7,6 +7,7 @@ import socket
 import struct
 import termios
 import types
+from collections.abc import Iterator
 from pathlib import Path
 
 import pytest
@@ -92,7 +93,7 @@ def is_read(client):
 
 
 @contextlib.contextmanager
-def stores(program, folder, *words):
+def stores(program: str, folder: str, *words: str) -> Iterator[tuple[parts.Part, str]]:
     """A store with an object: its nixkeep-cache with some options, and where the record of the object is."""
     Path(config := f"{folder}/store.toml").write_text(CONFIG)
     with parts.server(program, folder, config, f"{folder}/store.db") as server, \
@@ -124,15 +125,15 @@ class Transport(asyncio.Transport):
         super().__init__()
         self.done, self.other = [], None
 
-    def write(self, data):
+    def write(self, data: bytes) -> None:
         self.done.append(data)
 
-    def close(self):
+    def close(self) -> None:
         self.done.append("closed")
 
     abort = close
 
-    def set_protocol(self, protocol):
+    def set_protocol(self, protocol: asyncio.BaseProtocol) -> None:
         self.other = protocol
 
 
@@ -149,7 +150,7 @@ class Other:
 class Replies:
     """Answers `a` at once, and with `b` ends the connection."""
 
-    def reply(self, data):
+    def reply(self, data: bytes) -> tuple[bytes, bool] | None:
         return {b"a": (b"A", False), b"b": (b"B", True)}.get(data)
 
 

@@ -1,5 +1,5 @@
-"""Tests of the memory that nixkeep-cache and its server take at the worst: all that requests may have at once fits
-beside the largest store that takes adds."""
+"""Tests of the memory that nixkeep-cache and its server take at the worst: the largest store that takes adds, and
+all that requests may have at once with it."""
 import os
 import re
 import subprocess
@@ -53,7 +53,7 @@ def ran(code, *words):
 
 
 def test_the_sum():
-    """Each term is what so many have at once, in the bytes that each may have."""
+    """Each term is how many there are at once, times the bytes that each may have."""
     terms = {
         "replies and readers": cache_http.ROOM,
         "replies that are compressed": cache_http.THREADS * nar.LIMIT,

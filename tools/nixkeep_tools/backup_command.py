@@ -100,7 +100,7 @@ def limit(seconds):
     stopping.by_signals("copy")
 
 
-def of_file(words, path):
+def of_file(words: argparse.Namespace, path: str) -> tuple[int, int]:
     """Copies the file. The server may start again, so systemd is notified, before the copy is tested."""
     wanted = backup_check.wanted(words.note, words.db)
     backup_file.copy(words.db, path)

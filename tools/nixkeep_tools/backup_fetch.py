@@ -72,7 +72,7 @@ class Fetch:
         # The pointers that the source shows as large archives, by the base names of their paths.
         self.pointers = {}
 
-    def as_user(self, user, method, target, body=b""):
+    def as_user(self, user: str, method: str, target: str, body: bytes = b"") -> str:
         self.target.server.fields = {"store-user": user}
         return self.target.ask(method, target, body)[1].decode()
 
@@ -180,7 +180,7 @@ class Fetch:
         for (user, name), generations in profiles.items():
             self.set_profile(user, name, generations)
 
-    def set_profile(self, user, name, generations):
+    def set_profile(self, user: str, name: str, generations: dict[int, str]) -> None:
         fillers = []
         if len(generations) < max(generations):
             fillers = [self.filler(user, at) for at in range(2)]

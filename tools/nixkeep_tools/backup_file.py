@@ -67,7 +67,7 @@ def create(path: str) -> None:
     os.close(fresh(path))
 
 
-def open_copy(path):
+def open_copy(path: str) -> sqlite3.Connection:
     """A connection that writes a file which is there, and makes none."""
     return sqlite3.connect(f"file:{store_file.quoted(path)}?mode=rw", uri=True, isolation_level=None)
 
@@ -133,7 +133,7 @@ def explain(path: str, config: str | None) -> None:
     ran([sys.executable, "-BES", f"{HERE}/nixkeep-explain", *(["--config", config] if config else []), path], "test")
 
 
-def reported(path, config, program):
+def reported(path: str, config: str | None, program: str) -> str:
     """The report that the program prints of a file, which it opens, and so tests, as a server does."""
     text = ran(words_of(program, config, "--db", path, "report"), "test")
     fold(path)
@@ -186,7 +186,7 @@ def before_migration(words: argparse.Namespace) -> str | None:
         return keep(words, number)
 
 
-def keep(words, number):
+def keep(words: argparse.Namespace, number: int) -> str:
     """Copies a file of this schema, tests the copy, and gives it its name. Returns the line that is printed."""
     kept, fresh = f"{words.db}-of-schema-{number}", f"{words.db}-of-schema-{number}.new"
     with contextlib.suppress(FileNotFoundError):

@@ -6,7 +6,7 @@ import os
 import re
 import stat
 import time
-from collections.abc import Callable
+from collections.abc import Callable, Iterator
 from typing import BinaryIO
 
 from . import backup_file, backup_units, disk_room, explain_file, stopping, store_file
@@ -26,7 +26,7 @@ TRIES = 20
 
 
 @contextlib.contextmanager
-def alone(folder):
+def alone(folder: str) -> Iterator[None]:
     """One restore of a folder by root at a time, from before its units are stopped: of two, the one that ends first
     would start the server below the other. The account of the store can't open what is locked, and so stop no restore.
     """
@@ -50,7 +50,7 @@ def another(folder):
 
 
 @contextlib.contextmanager
-def opened(folder, within=None):
+def opened(folder: str, within: int | None = None) -> Iterator[int]:
     """The number of an open folder: whatever gets its name meanwhile, what is done by the number is done there."""
     number = os.open(folder, os.O_RDONLY | os.O_DIRECTORY | os.O_NOFOLLOW, dir_fd=within)
     try:
@@ -96,7 +96,7 @@ def held(names, folder):
         yield
 
 
-def for_locking(name, folder):
+def for_locking(name: str, folder: int) -> int | None:
     """The number of an open file that a server may have locked, or None for what is no file. In a folder of another
     account root follows no link, and opens no device."""
     is_foreign = not os.geteuid() and os.fstat(folder).st_uid

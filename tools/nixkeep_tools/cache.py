@@ -88,7 +88,7 @@ async def framed(request, handler):
     return answer
 
 
-def together(middlewares):
+def together(middlewares: list[Callable]) -> Callable:
     """One middleware for many, the first of which is the outermost. For each of its own, aiohttp copies the attributes
     of a function at each request."""
 

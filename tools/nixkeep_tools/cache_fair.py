@@ -7,7 +7,7 @@ from .cache_http import Handler, reply
 
 # The requests that there are at most, and the bytes that each has in memory while its body or its turn doesn't come.
 MOST, EACH = 1024, 1 << 16
-# What a refused client is told, besides the text: the seconds after which it may try again.
+# The seconds after which a refused client may try again.
 SOON = "1"
 
 

@@ -37,7 +37,7 @@ class Places:
         if not mine:
             self.waiting.pop(user, None)
 
-    def is_free(self, user):
+    def is_free(self, user: str) -> bool:
         free, has = self.most - self.running.total(), self.running[user]
         return has < self.each and free > (self.kept if has else 0)
 
