@@ -85,23 +85,46 @@ def test_what_fails_counts_no_more():
     assert not fair.running
 
 
-@pytest.mark.parametrize("users", [["ann"], ["ann", "bob"]])
-def test_many_changes_at_once(program, folder, users):
-    """Of 400 changes at once, by one user or by two, none is refused."""
+@pytest.fixture
+def clients():
+    """400 sockets."""
     soft, hard = resource.getrlimit(resource.RLIMIT_NOFILE)
     resource.setrlimit(resource.RLIMIT_NOFILE, (min(hard, 8192), hard))
-    try:
-        with stores(program, folder, "--proxied") as (made, _), contextlib.ExitStack() as held:
-            clients = [held.enter_context(socket.socket(socket.AF_UNIX)) for _ in range(400)]
-            for it in clients:
-                it.connect(made.place)
-                it.settimeout(100)
-            for at, it in enumerate(clients):
-                user = users[at % len(users)]
-                it.sendall(f"DELETE /temp/{user}/1 HTTP/1.1\r\nhost: red\r\nstore-user: {user}\r\n\r\n".encode())
-            assert {it.recv(1000).partition(b"\r\n")[0] for it in clients} == {b"HTTP/1.1 200 OK"}
-    finally:
-        resource.setrlimit(resource.RLIMIT_NOFILE, (soft, hard))
+    with contextlib.ExitStack() as held:
+        yield [held.enter_context(socket.socket(socket.AF_UNIX)) for _ in range(400)]
+    resource.setrlimit(resource.RLIMIT_NOFILE, (soft, hard))
+
+
+def sent(client, place, method, target, user):
+    """Sends a request without waiting for room in the queue of the socket, as nginx does."""
+    client.setblocking(False)
+    client.connect(place)
+    client.settimeout(300)
+    client.sendall(f"{method} {target} HTTP/1.1\r\nhost: red\r\nstore-user: {user}\r\n\r\n".encode())
+
+
+def first_lines(clients):
+    return {it.recv(1000).partition(b"\r\n")[0] for it in clients}
+
+
+@pytest.mark.parametrize("users", [["ann"], ["ann", "bob"]])
+def test_many_changes_at_once(program, folder, users, clients):
+    """Of 400 changes at once, by one user or by two, none is refused."""
+    with stores(program, folder, "--proxied") as (made, _):
+        for at, it in enumerate(clients):
+            user = users[at % len(users)]
+            sent(it, made.place, "DELETE", f"/temp/{user}/1", user)
+        assert first_lines(clients) == {b"HTTP/1.1 200 OK"}
+
+
+def test_many_wait_while_it_restarts(unit, clients):
+    """400 requests that come to the unit's socket while the store is stopped are answered by the next process."""
+    with unit() as store:
+        store.end()
+        for it in clients:
+            sent(it, store.place, "GET", "/who", "ann")
+        store.start()
+        assert first_lines(clients) == {b"HTTP/1.1 200 OK"}
 
 
 def test_bodies_that_wait_take_little_memory(program, folder):

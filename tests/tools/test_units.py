@@ -41,7 +41,7 @@ SETTINGS = {
     "nixkeep@.service": {**ACCOUNT, "CacheDirectoryMode": ["0700"], "Restart": ["always"],
                          "LimitNOFILE": ["16384"], "OOMPolicy": ["continue"]},
     "nixkeep@.socket": {"SocketUser": ["root"], "SocketGroup": ["nixkeep-%i"], "SocketMode": ["0660"],
-                        "ListenStream": ["/run/nixkeep/%i.socket"]},
+                        "ListenStream": ["/run/nixkeep/%i.socket"], "Backlog": ["4096"]},
     "nixkeep-backup@.service": {**ACCOUNT, "OOMPolicy": ["continue"]},
     "nixkeep-backup@.timer": {"Persistent": ["yes"]},
     "nixkeep-sweep@.service": {"DynamicUser": ["yes"], "User": ["sweep-%i"], "SupplementaryGroups": ["nixkeep-%i"],

@@ -255,7 +255,8 @@ def main(words: list[str] | None = None) -> None:
         return await application(said, server, waiting, settings, signing, is_local)
 
     try:
-        web.run_app(start(), **where, print=None, access_log=None, shutdown_timeout=FINISH, loop=Loop())
+        web.run_app(start(), **where, print=None, access_log=None, shutdown_timeout=FINISH, loop=Loop(),
+                    backlog=cache_listening.QUEUE)
     except (OSError, blobs.Failed) as error:
         sys.exit(f"nixkeep-cache: {error}")
     finally:

@@ -7,6 +7,9 @@ import socket
 DEFAULT = ("127.0.0.1", 8081)
 # The first of the sockets that systemd passes: sd_listen_fds(3).
 FIRST = 3
+# The connections that wait at a socket until they are accepted, also while this restarts: a passed socket gets this
+# number in the place of its own. nginx answers 502 where a Unix socket has no room for another one.
+QUEUE = 4096
 
 
 def place(text: str) -> tuple[str, int]:
