@@ -585,18 +585,34 @@ def fails_with(line, came):
     assert came[0] == 1 and line in came[2]
 
 
-@pytest.mark.parametrize("unit, machine, swap, line", [
-    ("infinity", 4_000, 0, None), ("infinity", 3_999, 0, "the machine has 3999 bytes"),
-    ("infinity", 3_000, 1_000, None), ("4000", 5_000, 0, None), ("3999", 5_000, 0, "red has MemoryMax 3999 bytes"),
-    ("4000", 3_999, 0, "the machine has 3999 bytes")])
-def test_a_server_that_may_not_open_again(unit, machine, swap, line, monkeypatch):
-    """By docs/OPERATING.md, Growth: archives that have more than three quarters of its memory."""
+@pytest.mark.parametrize("unit, machine, swap, start, line", [
+    ("infinity", 4_000, 0, 0, None), ("infinity", 3_999, 0, 0, "the machine has 3999 bytes"),
+    ("infinity", 3_000, 1_000, 0, None), ("4000", 5_000, 0, 0, None),
+    ("3999", 5_000, 0, 0, "red has MemoryMax 3999 bytes"), ("4000", 3_999, 0, 0, "the machine has 3999 bytes"),
+    ("4000", 5_000, 0, 4_000, None), ("4000", 5_000, 0, 4_001, "red has MemoryMax 4000 bytes"),
+    ("infinity", 4_000, 0, 4_001, "the machine has 4000 bytes")])
+def test_a_server_that_may_not_open_again(unit, machine, swap, start, line, monkeypatch):
+    """By docs/OPERATING.md, Growth: archives that have more than three quarters of its memory, or rows for which the
+    next start takes more than it."""
     monkeypatch.setattr(backup_file, "ran", lambda *_: f"{unit}\n")
     monkeypatch.setattr(store_size, "machine", lambda: machine)
     monkeypatch.setattr(backup_check, "swap", lambda: swap)
-    refused = pytest.raises(Stop, match=f"^failed: memory: {line}, in which a store of 3000 bytes may not open")
+    why = f"and the server's next start takes {start}:" if start else "in which a store of 3000 bytes may not open"
+    refused = pytest.raises(Stop, match=f"^failed: memory: {line}, {why}")
     with refused if line else contextlib.nullcontext():
-        backup_check.refuse_large("total 7 3000\n", "red")
+        backup_check.refuse_large("total 7 3000\n", "red", start)
+
+
+@pytest.mark.parametrize("status, kind, page, start", [
+    (200, "text/plain; version=0.0.4", b"# HELP x\nnixkeep_start_memory_bytes 1.25e+09\nnixkeep_up 1.0\n", 1_250_000_000),
+    (200, "text/plain", b"nixkeep_start_memory_bytes 5000.0\n", 5_000), (200, "text/plain", b"nixkeep_up 1.0\n", 0),
+    (200, "text/plain", b"nixkeep_start_memory_bytes nan\n", 0), (404, "text/plain", b"refused: 39 no-route\n", 0),
+    (404, "text/plain", b"the metrics need the Debian package python3-prometheus-client\n", 0)])
+def test_what_the_next_start_takes(status, kind, page, start, folder):
+    """nixkeep-cache says it among its figures, if it has any."""
+    Path(config := f"{folder}/red.toml").write_text(CONFIG)
+    with servers.answering(lambda *_: (status, kind, page)) as url, backup_check.server_of(url, config) as server:
+        assert backup_check.start_of(server) == start
 
 
 @contextlib.contextmanager

@@ -164,23 +164,42 @@ def test_listings_of_all_paths_are_made_one_at_a_time():
     assert asked[:4].count("bob") == 1, "another user is among the first"
 
 
-def test_many_objects(monkeypatch):
-    """The overview of a store with many objects reads none of them."""
-    asked = []
+LONG = b"%s /nix/store/0-x\n" % (b"x" * 4500)
+
+
+@pytest.mark.parametrize("objects, roots, refused", [
+    (11, b"", "11 objects takes too much memory: collect"), (1, b"x /nix/store/0-x\n" * 11, "11 roots takes"),
+    (1, LONG, "1 roots takes too much memory: drop roots"), (10, b"x /nix/store/0-x\n" * 10, None)])
+def test_many_objects_or_roots(objects, roots, refused, monkeypatch):
+    """The overview of a store with many objects reads none of them, and neither are many roots read. Those that are
+    read hold up nobody."""
+    asked, threads, read = [], [], overview_source.root
+    listed = b"".join(b"/nix/store/%032d-x\n" % at for at in range(objects))
+    replies = {"/paths": listed, "/roots": roots, "/live": b""}
 
     class Server:
         connections = 1
 
         async def ask(self, _, __, target):
             asked.append(target)
-            return cache_server.Reply(200, "text/plain", b"".join(b"/nix/store/%032d-x\n" % at for at in range(11)))
+            return cache_server.Reply(200, "text/plain", replies[target])
 
-    monkeypatch.setattr(cache_overview, "OBJECTS", 10)
+        async def gets(self, *_):
+            for it in ():
+                yield it
+
+    monkeypatch.setattr(cache_overview, "LINES", 10)
+    monkeypatch.setattr(overview_source, "root", lambda *it: threads.append(threading.current_thread()) or read(*it))
     overviews = cache_overview.Overviews(Server(), "/nix/store", (False, True), None, None)
-    text = "the overview of 11 objects takes too much memory: collect"
-    with pytest.raises(cache_http.Answered, match=text) as answered:
-        asyncio.run(overviews.make(cache_server.Caller("ann", None)))
-    assert (answered.value.reply.status, asked) == (503, ["/paths"])
+    make = lambda: asyncio.run(overviews.make(cache_server.Caller("ann", None)))
+    if not refused:
+        make()
+        assert len(threads) == 10 and threading.main_thread() not in threads
+        return
+    with pytest.raises(cache_http.Answered, match=f"the overview of {refused}") as answered:
+        make()
+    assert (answered.value.reply.status, asked) == (503, ["/paths", "/roots"][:1 + bool(roots)])
+    assert not threads
 
 
 def test_what_a_long_body_names_is_looked_for_in_its_first_part():

@@ -1,5 +1,6 @@
 """Tests of the memory that nixkeep-cache and its server take at the worst: the largest store that takes adds, and
 all that requests may have at once with it."""
+import contextlib
 import os
 import re
 import subprocess
@@ -73,8 +74,69 @@ def test_the_largest_store_takes_adds():
     """A server that has opened the largest file that is accepted has less than the part from which on nothing is."""
     file = cache_limit.ACCEPTED * store_size.opened_with(MEMORY)
     opened = file + store_size.CACHE + store_size.REST
-    assert opened < cache_limit.HAD * MEMORY < cache_limit.TOGETHER * MEMORY
-    assert opened + (100 << 20) < cache_limit.TOGETHER * MEMORY, "with what nixkeep-cache has without requests"
+    together = opened + (100 << 20)
+    assert together < cache_limit.TOGETHER * MEMORY, "with what nixkeep-cache has without requests"
+    assert together < cache_limit.STARTS * MEMORY, "with that, the next start takes no more"
+
+
+# The bytes that each of these has in the file, in the memory of the server that runs as it comes, and in that of its
+# next start at most, the last two without the page cache: as they were measured with many small ones.
+ROWS = {"roots": (94, 176, 325), "paths of sessions": (100, 124, 198), "references": (250, 22, 200),
+        "texts": (345, 62, 464), "archives": (1, 0, 1)}
+
+
+@pytest.mark.parametrize("is_add", [True, False])
+@pytest.mark.parametrize("first", ROWS)
+@pytest.mark.parametrize("kind", ROWS)
+def test_what_comes_while_a_server_runs(first, kind, is_add, monkeypatch):
+    """The next start has the memory for it, also where some of another kind came before, up to half of the limit."""
+    begun, own, most = 13_000_000, 50 << 20, int(cache_limit.ACCEPTED * store_size.opened_with(MEMORY))
+    file, had, starts = 4096, begun, begun
+    monkeypatch.setattr(cache_limit, "LOOK", -1)
+    monkeypatch.setattr(store_size, "used", lambda _: file)
+    limit = cache_limit.Limit("it", most, lambda: had + min(file, store_size.CACHE), lambda: own,
+                              lambda: (begun, begun, 4096))
+    limit.memory = MEMORY
+    with pytest.raises(cache_limit.Full):
+        while True:
+            bytes_of, runs, next_start = ROWS[first if file < most // 2 else kind]
+            count = 1_000_000 // bytes_of
+            limit.check(count * bytes_of, is_add)
+            file, had, starts = (now + count * it for now, it in zip((file, had, starts), (bytes_of, runs, next_start)))
+    assert file > (0.9 if {first, kind} == {"archives"} else 0.1) * most
+    assert starts + store_size.CACHE + own < MEMORY
+
+
+def test_adds_are_refused_before_roots():
+    """Roots are possible before a collection. A server that starts has what it takes."""
+    opened = [(2_000_000_000, 1_900_000_000, 0)]
+    had, own = [1_900_000_000], 50 << 20
+    limit = cache_limit.Limit(None, None, lambda: had[0], lambda: own, lambda: opened[0])
+    limit.memory = MEMORY
+    had[0] += int(cache_limit.STARTS * MEMORY - own - 2_000_000_000) // 2
+    for is_add in (True, False):
+        limit.check(1, is_add)
+    had[0] += 1 << 20
+    limit.check(1, False)
+    text = "nixkeep-cache and the server's next start take [0-9]+ of 3221225472 bytes of memory: drop roots, collect, and"
+    with pytest.raises(cache_limit.Full, match=f"^failed: full {text} start it again\n$"):
+        limit.check(1)
+    opened[0] = None
+    limit.check(1)
+    assert limit.started() == had[0]
+
+
+@pytest.mark.parametrize("opened, is_full", [(0.66, False), (0.78, True)])
+def test_a_warning_of_memory(opened, is_full, folder, capsys):
+    """A line comes before adds are refused."""
+    Path(file := f"{folder}/store.db").write_bytes(bytes(100))
+    size = int(opened * MEMORY)
+    limit = cache_limit.Limit(file, 1 << 30, lambda: size - 1000, lambda: MEMORY // 50, lambda: (size, size - 1000, 0))
+    limit.memory = MEMORY
+    with pytest.raises(cache_limit.Full) if is_full else contextlib.nullcontext():
+        limit.check(1)
+    line = f"nixkeep-cache: warning: the server's next start takes {size} of {MEMORY} bytes of memory\n"
+    assert capsys.readouterr().err == line
 
 
 @pytest.mark.parametrize("compression, suffix", [("none", ""), ("xz", ".xz"), ("zstd", ".zst")])
@@ -109,14 +171,13 @@ def test_figures_take_what_is_left(monkeypatch):
     """An overview is made where there is memory for its objects and its roots, besides those that were read before."""
     left = [cache_overview.EACH * 10]
     overviews = cache_overview.Overviews(None, "/nix/store", (False, True), None, None, left=lambda: left[0])
-    assert overviews.most_objects() == 10
-    overviews.records.objects = dict.fromkeys(range(5))
-    assert overviews.most_objects() == 15
+    assert overviews.most(0) == 10
+    assert overviews.most(5) == 15
     overviews.make_room(400, 400)
     with pytest.raises(cache_http.Answered, match="too much memory"):
         overviews.make_room(401, 400)
     left[0] = 1 << 40
-    assert overviews.most_objects() == cache_overview.OBJECTS
+    assert overviews.most(0) == cache_overview.LINES
     with pytest.raises(cache_http.Answered, match="too much memory"):
         overviews.make_room(1 << 15, 1 + (1 << 15))
     monkeypatch.setattr(cache_limit, "TOGETHER", 0.5)

@@ -38,6 +38,7 @@ def test_metrics(unit, folder):
         used = Path(folder, "store.db-wal").stat().st_size
         assert 0 < values["nixkeep_store_bytes",] <= used, "the size of the file"
         assert values["nixkeep_store_bytes_limit",] == 100_000_000, "and its limit"
+        assert 1 << 20 < values["nixkeep_start_memory_bytes",] < 1 << 30, "the memory of the server's next start"
         assert [values[it,] for it in ("nixkeep_up", "nixkeep_queue")] == [1, 0], "it is there, and nothing waits"
         assert ("nixkeep_backup_age_seconds",) not in values, "no copy has been made"
         Path(f"{folder}/backup.json").write_text(json.dumps({"succeeded": int(time.time()) - 1000}))

@@ -3,33 +3,49 @@ import argparse
 import contextlib
 import json
 import os
+import re
 import sqlite3
 import subprocess
 from pathlib import Path
 
 from . import as_owner, backup_file, store_file, store_size
 from .failures import Stop, reason
-from .http_client import Place, Server
+from .http_client import Foreign, Place, Server
 
 # The part of a unit's memory that an opened store may need for its archives; opening takes more than their bytes.
 OPENS = 0.75
-# The bytes of a report, which has four lines.
-REPORT = 1_000
+# The bytes of a report, which has four lines, and those of the figures of nixkeep-cache, at most.
+REPORT, FIGURES = 1_000, 1 << 20
+# The figure of the memory that the server's next start takes.
+START = re.compile(r"^nixkeep_start_memory_bytes ([0-9]{1,20}(?:\.[0-9]{1,20})?(?:e\+[0-9]{2})?)$", re.M)
 
 
-def report_of(url, config):
-    """The report that a server prints for the first caller of its configuration."""
+@contextlib.contextmanager
+def server_of(url, config):
+    """A server, which is asked for the first caller of its configuration."""
     user, group = backup_file.caller(backup_file.settings(config))
-    fields = {"store-user": user, **({"store-group": group} if group else {})}
-    server = Server(Place(url), fields)
+    server = Server(Place(url), {"store-user": user, **({"store-group": group} if group else {})})
     try:
-        reply = server.ask("GET", "/report")
-        text = reply.text(REPORT)
+        yield server
     finally:
         server.connection.close()
+
+
+def report_of(server):
+    reply = server.ask("GET", "/report")
+    text = reply.text(REPORT)
     if reply.status:
         raise Stop(text.rstrip("\n"), reply.status)
     return text
+
+
+def start_of(server):
+    """The bytes of memory that a server's next start takes by the figures of nixkeep-cache, or 0 if there are none."""
+    try:
+        found = START.search(server.ask("GET", "/metrics", is_repeated=True).text(FIGURES))
+    except Foreign:
+        return 0
+    return int(float(found[1])) if found else 0
 
 
 def memory_of(unit):
@@ -46,11 +62,15 @@ def swap():
     return 0
 
 
-def refuse_large(text: str, unit: str) -> None:
-    """Raises Stop if a server with the archives of this report may not fit into its memory."""
+def refuse_large(text: str, unit: str, start: int) -> None:
+    """Raises Stop if a server with the archives of this report, or one whose start takes so many bytes of memory, may
+    not fit into its memory."""
     size, (limit, whose) = int(backup_file.TOTAL.search(text)[2]), memory_of(unit)
     if size > limit * OPENS:
         raise Stop(f"failed: memory: {whose} {limit} bytes, in which a store of {size} bytes may not open: the server "
+                   "isn't stopped")
+    if start > limit:
+        raise Stop(f"failed: memory: {whose} {limit} bytes, and the server's next start takes {start}: the server "
                    "isn't stopped")
 
 
@@ -100,12 +120,13 @@ def check(words: argparse.Namespace) -> None:
     backup_file.ran(backup_file.words_of(backup_file.program_of(words), words.config, "who"), "configuration")
     before = looked_at(words.db, seen)
     refuse_newer(words.db, before["schema"])
-    text = report_of(words.server, words.config)
+    with server_of(words.server, words.config) as server:
+        text, start = report_of(server), start_of(server) if words.unit else 0
     refuse_replaced(words.db)
     if not backup_file.TOTAL.search(text):
         raise Stop("failed: report: the server's report has no total")
     if words.unit:
-        refuse_large(text, words.unit)
+        refuse_large(text, words.unit, start)
     if words.note:
         write_note(words.note, {"version": before["version"], "report": text}, Path(words.db).parent)
 

@@ -143,7 +143,7 @@ def parts_of(said, server, waiting, settings, signing, ends):
         waiting.use(name)
     sending, sessions = Sending(ROOM, said.idle), Sessions(server, f"{waiting.folder}/sessions", said.session_seconds)
     own = lambda: store_size.resident() + cache_limit.LISTINGS * names.size
-    limit = cache_limit.Limit(said.db, said.most_bytes, getattr(server.place, "memory", lambda: None), own)
+    limit = cache_limit.Limit(said.db, said.most_bytes, server.place.memory, own, lambda: server.place.opened)
     overviews = Overviews(server, store, keeps, sending, overview_source.name_of(said.config, said.db), left=limit.left)
     watched = Watched(said, server, waiting, limit, store)
     followers = [names.deleted, overviews.records.forget, shares.deleted, signing.deleted]

@@ -51,8 +51,9 @@ class Child:
         self.words = [program, *(["--config", config] if config else []), "--db", file, "serve"]
         self.identity = identity(program)
         self.process, self.handle, self.running, self.why, self.refused = None, None, None, "it starts", 0
-        # The process that answers, as soon as there is one.
-        self.ready = None
+        # The process that answers, as soon as there is one; and of when it had opened its file the most bytes of memory
+        # that it had had, those that it had, and those of the file.
+        self.file, self.ready, self.opened = file, None, None
 
     async def open(self) -> tuple[asyncio.StreamReader, asyncio.StreamWriter]:
         """The streams of a server that has opened its file. Raises Refused."""
@@ -90,7 +91,7 @@ class Child:
 
     async def serve(self) -> tuple[int, bool]:
         """Starts a server, and waits for its end. Returns its status, and whether it has answered."""
-        pipe, answers = asyncio.subprocess.PIPE, False
+        pipe, answers, self.opened = asyncio.subprocess.PIPE, False, None
         try:
             self.process = await asyncio.create_subprocess_exec(*self.words, stdin=pipe, stdout=pipe, limit=AHEAD)
             with contextlib.suppress(ProcessLookupError):
@@ -101,6 +102,8 @@ class Child:
             # (it answers once the file is open, which takes long for a large one)
             self.process.stdin.write(message(Request(Caller("nixkeep-cache", None), "GET", "/"))[0])
             answers = bool(await read_reply(self.process.stdout))
+            with contextlib.suppress(OSError, ValueError):
+                self.opened = store_size.highest(self.process.pid), self.memory(), store_size.used(self.file)
             self.ready.set_result(self.process)
         status = await self.process.wait()
         with contextlib.suppress(*BROKEN):

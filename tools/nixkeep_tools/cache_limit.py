@@ -9,9 +9,12 @@ from . import store_size
 ACCEPTED, WARNED = 0.6, 0.8
 # The part of the limit by which roots may go beyond it: they are needed before a collection.
 ROOTS = 0.05
-# The part of the memory that a server may have before it takes nothing more: its next start needs a fifth more, and
-# many small rows need much more than their bytes in the file. And the part that it may have together with this process,
-# which has the names of all objects, records and figures, and with what listings of all objects take.
+# The part of the memory that the server's next start may take together with this process, from which on adds are
+# refused. It takes what the last one took, and for what has come since at most its bytes in the file, which it tests,
+# and SINCE times the memory that the running server has for it: that of small rows is more while they are read.
+STARTS, SINCE = 0.8, 2
+# The part of the memory that the server may have together with this process, which has the names of all objects,
+# records and figures, and with what listings of all objects take.
 #
 # The rest is for what requests have in memory, and has to be more than the sum of these, which is of the unit's limit
 # (packaging/nixkeep@.service), and which tests/tools/test_cache_memory.py makes again:
@@ -26,14 +29,14 @@ ROOTS = 0.05
 #   large archives that come               cache_blobs.COMING
 #   requests that wait                     cache_fair.MOST, of EACH each
 #   the server                             SERVER copies of one archive
-HAD, TOGETHER = 0.67, 0.7
+TOGETHER = 0.7
 # The copies of one archive that a server has for a request: as it came, as it is in the database, and as a reply.
 SERVER = 4
 # How many times a listing of all objects may be in memory, of both processes: as the server makes it, as it comes, and
 # as those have it who asked for one: for names, for a client, for pointers and for the overview.
 LISTINGS = 6
 # The seconds between two looks at the file, and between two warnings.
-LOOK, AGAIN = 1, 3600
+LOOK, WARN = 1, 3600
 
 
 class Full(Exception):
@@ -47,23 +50,25 @@ def usual() -> int:
 
 class Limit:
     """A limit of `most` bytes for a file. None is no limit. `had` returns the bytes of memory that its server has now,
-    or None, and `own` those of this process."""
+    and `own` those of this process. `opened` returns three numbers of when the server had opened its file: the most
+    bytes of memory that it had had, those that it had, and those of the file. `had` and `opened` return None where
+    nothing is known."""
 
     def __init__(self, file: str | None, most: int | None, had: Callable[[], int | None] = lambda: None,
-                 own: Callable[[], int] = store_size.resident):
-        self.file, self.most, self.used, self.coming, self.looked, self.warned = file, most, 0, 0, -LOOK, -AGAIN
-        self.had, self.own, self.memory = had, own, store_size.memory()
+                 own: Callable[[], int] = store_size.resident,
+                 opened: Callable[[], tuple[int, int, int] | None] = lambda: None):
+        self.file, self.most, self.used, self.coming, self.looked, self.warned = file, most, 0, 0, -LOOK, -WARN
+        self.had, self.own, self.opened, self.memory = had, own, opened, store_size.memory()
 
     def check(self, size: int, is_add: bool = True) -> None:
         """Counts `size` bytes that come. Raises Full where there is no room for them."""
-        if has := self.had():
-            self.check_memory("the server has", has, HAD)
-            self.check_memory("the server and nixkeep-cache have", has + self.own(), TOGETHER)
+        if self.file and time.monotonic() - self.looked > LOOK:
+            self.look()
+        more = 1 if is_add else 1 + ROOTS
+        self.check_memory(more)
         if self.most is None:
             return
-        if time.monotonic() - self.looked > LOOK:
-            self.look()
-        allowed = self.most if is_add else (1 + ROOTS) * self.most
+        allowed = more * self.most
         if self.coming and self.used + self.coming + size > allowed:
             # (what came may not have made the file larger)
             self.look()
@@ -71,15 +76,34 @@ class Limit:
             raise Full(f"failed: full {self.used} of {self.most} bytes are used: drop roots, and collect\n")
         self.coming += size
 
-    def check_memory(self, who: str, has: int, part: float) -> None:
-        """Raises Full where these have more than a part of the memory."""
-        if has > part * self.memory:
-            raise Full(f"failed: full {who} {has} of {self.memory} bytes of memory: drop roots, collect, and start it "
-                       "again\n")
+    def check_memory(self, more: float) -> None:
+        """Raises Full where the server has too much of the memory, or would have at its next start."""
+        if not (has := self.had()):
+            return
+        own = self.own()
+        for who, taken, part in (("the server and nixkeep-cache have", has + own, TOGETHER),
+                                 ("nixkeep-cache and the server's next start take", self.started() + own,
+                                  more * STARTS)):
+            if taken > part * self.memory:
+                raise Full(f"failed: full {who} {taken} of {self.memory} bytes of memory: drop roots, collect, and "
+                           "start it again\n")
 
-    def is_near(self) -> bool:
-        """Whether the file is nearly as large as it may be."""
-        return self.most is not None and self.used > WARNED * self.most
+    def started(self) -> int | None:
+        """The bytes of memory that the server's next start takes, or None where that isn't known."""
+        if not (has := self.had()):
+            return None
+        # (one that opens its file has what it takes)
+        most, then, file = self.opened() or (has, has, self.used)
+        return most + max(0, self.used - file) + SINCE * max(0, has - then)
+
+    def near(self) -> list[str]:
+        """What is nearly as much as it may be: the file, and the memory of the server's next start."""
+        found, start = [], self.started()
+        if self.most is not None and self.used > WARNED * self.most:
+            found.append(f"the store has {self.used} of {self.most} bytes")
+        if start and start + self.own() > WARNED * STARTS * self.memory:
+            found.append(f"the server's next start takes {start} of {self.memory} bytes of memory")
+        return found
 
     def left(self) -> int | None:
         """The bytes of memory that are left for what lasts, such as figures; None where the server's aren't known."""
@@ -95,13 +119,13 @@ class Limit:
         return self.used, self.most
 
     def look(self) -> None:
-        """Looks at the file, and warns where it is nearly as large as it may be."""
+        """Looks at the file, and warns of what is nearly as much as it may be."""
         self.looked, self.coming = time.monotonic(), 0
         try:
             self.used = store_size.used(self.file)
         except FileNotFoundError:
             self.used = 0
-        if self.is_near() and self.looked - self.warned > AGAIN:
-            self.warned = self.looked
-            line = f"nixkeep-cache: warning: the store has {self.used} of {self.most} bytes"
-            print(line, file=sys.stderr, flush=True)
+        if self.looked - self.warned > WARN:
+            for it in self.near():
+                self.warned = self.looked
+                print(f"nixkeep-cache: warning: {it}", file=sys.stderr, flush=True)

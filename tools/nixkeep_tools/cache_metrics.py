@@ -127,6 +127,7 @@ def of_cache(server: Server, watching: Watching, limit: Limit, waiting: Waiting)
             ("queue", "Exchanges that wait for their turn at the server.", server.turns.waiting()),
             ("store_bytes", "The bytes that the file of the store uses.", used),
             ("store_bytes_limit", "The bytes beyond which adds are refused.", most),
+            ("start_memory_bytes", "The bytes of memory that the server's next start takes.", limit.started()),
             ("waiting_files", "Uploaded archives that wait for their records, or have not been deleted yet.",
              len(waiting.files)),
             ("waiting_bytes", "The bytes of these.", sum(it.bytes for it in waiting.files.values())),

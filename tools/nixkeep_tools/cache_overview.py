@@ -22,8 +22,8 @@ PAGE = re.compile(r"/overview(\?.*)?")
 # The seconds for which figures are kept, and the users whose figures are. A page says of when it is.
 FRESH, USERS = 5, 8
 # The objects times the roots of a store for which figures are made: each object has a bit for each root in memory. And
-# the objects, and the bytes that each has with what was read of it.
-MOST, OBJECTS, EACH = 1 << 30, 250_000, 2000
+# how many objects there may be, and how many roots, and the bytes that each has with what was read of it.
+MOST, LINES, EACH = 1 << 30, 250_000, 2000
 # The threads that make figures and pages.
 THREADS = 2
 
@@ -37,7 +37,8 @@ class Overviews:
                  longest: float = 60, left: Callable[[], int | None] = lambda: None):
         self.store, self.keeps, self.sending, self.name, self.longest = store, keeps, sending, name, longest
         self.left = left
-        self.records, self.turn, self.made = overview_source.Records(server, keeps[0], OBJECTS), asyncio.Lock(), {}
+        self.records = overview_source.Records(server, keeps[0], self.most, self.apart)
+        self.turn, self.made = asyncio.Lock(), {}
         # (threads of its own, since archives need the others; and one page at a time, for which users take turns)
         self.threads, self.pages = ThreadPoolExecutor(THREADS, "overview"), Turns()
 
@@ -84,18 +85,20 @@ class Overviews:
 
     async def make(self, caller: Caller) -> overview.Overview:
         async with self.turn:
-            self.records.most = self.most_objects()
             try:
                 store, live = await self.records.store(caller)
             except overview_source.TooMany as many:
-                raise Answered(reply(503, f"the overview of {many} objects takes too much memory: collect\n")) from None
+                count, what = many.args
+                then = "drop roots" if what == "roots" else "collect"
+                text = f"the overview of {count} {what} takes too much memory: {then}\n"
+                raise Answered(reply(503, text)) from None
             self.make_room(len(store.objects), len(store.roots))
             return await self.apart(overview.Overview, store, *self.keeps, live)
 
-    def most_objects(self) -> int:
-        """The objects of which there may be figures: those that were read before are in memory already."""
+    def most(self, known: int) -> int:
+        """The objects of which there may be figures, or the roots: so many of them are in memory already."""
         left = self.left()
-        return OBJECTS if left is None else min(OBJECTS, len(self.records.objects) + left // EACH)
+        return LINES if left is None else min(LINES, known + left // EACH)
 
     def make_room(self, objects: int, roots: int) -> None:
         """Forgets the figures of others where those of one user take much. Raises Answered where they take too much."""
@@ -103,7 +106,7 @@ class Overviews:
         if objects * roots > min(MOST, MOST if left is None else 8 * left):
             text = f"the overview of {objects} objects and {roots} roots takes too much memory: drop roots\n"
             raise Answered(reply(503, text))
-        if objects * roots > MOST // USERS:
+        if objects * roots > MOST // USERS or roots > LINES // USERS:
             self.made = {key: it for key, it in self.made.items() if not it[0].done()}
 
     async def apart(self, work: Callable, *words: Any) -> Any:

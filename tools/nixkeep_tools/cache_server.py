@@ -84,7 +84,8 @@ async def read_reply(reader: asyncio.StreamReader) -> tuple[Reply, bool]:
 class Port:
     """A server that listens on a port. It closes an idle connection after a minute, so that is closed before."""
 
-    idle, refused = 30, 0
+    # (of its memory nothing is known)
+    idle, refused, opened = 30, 0, None
 
     def __init__(self, host: str, port: int):
         self.host, self.port, self.why = host, port, "no answer"
@@ -100,6 +101,9 @@ class Port:
 
     def close(self, writer: asyncio.StreamWriter) -> None:
         """Says that a connection was closed."""
+
+    def memory(self) -> None:
+        """The bytes of memory that the server has: they aren't known."""
 
     async def end(self) -> None:
         """Says that there will be no other connection."""

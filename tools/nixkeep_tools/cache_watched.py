@@ -76,8 +76,8 @@ class Watched:
         tiles += [("of its limit", f"{100 * used / most:.0f} %")] if most else []
         tiles += [("last copy", f"{age / 3600:.1f} h ago")] if age is not None else []
         notices = []
-        if self.limit.is_near():
-            notices.append("The file is nearly as large as it may be: drop roots, and collect.")
+        if self.limit.near():
+            notices.append("The store is nearly as large as it may be: drop roots, and collect.")
         if self.state and (age is None or age > OLD):
             notices.append("There is no copy of the last two days.")
         return tiles, notices

@@ -4,6 +4,7 @@ import os.path
 import re
 import sys
 import tomllib
+from collections.abc import Awaitable, Callable
 from pathlib import Path
 
 from . import drv, nar, paths, pointers, store_file
@@ -16,6 +17,8 @@ _LABELS = [
     ("temporary", re.compile(r"\{temp:(?P<number>[0-9]+)\}")),
 ]
 CENSORED = "{censored}"
+# The bytes of a line of a listing, beyond which it counts as more than one.
+LINE = 400
 
 
 class Denied(Exception):
@@ -100,46 +103,65 @@ def outputs(archive, store_dir):
     return {name: sys.intern(path) for name, path in drv.outputs(bytes(text), store_dir)}
 
 
+def bases_of(text):
+    """The base names that a listing has, and the directory of its first path."""
+    lines = text.decode().splitlines()
+    return [line.rpartition("/")[2] for line in lines], lines[0].rpartition("/")[0] if lines else paths.STORE
+
+
+def roots_of(text):
+    """The roots that a listing has, each with the base name of its target."""
+    found = (root(*line.split(" ")) for line in text.decode().splitlines())
+    return [it._replace(target=it.target.rpartition("/")[2]) for it in found]
+
+
 class TooMany(Exception):
-    """More objects than are read, with their number."""
+    """More than is read, with the number and the word for what it is."""
 
 
 class Records:
     """The objects of a server, kept from one overview to the next: an object never changes while it is there. `most`
-    are read, or all of them."""
+    returns how many objects or roots are read, of which as many are in memory already as it is given; None is no
+    limit. `apart` does work in a thread."""
 
-    def __init__(self, server: Server, keeps_outputs: bool, most: int | None = None):
+    def __init__(self, server: Server, keeps_outputs: bool, most: Callable[[int], int | None] = lambda _: None,
+                 apart: Callable[..., Awaitable] = asyncio.to_thread):
         self.server, self.keeps_outputs, self.objects, self.connection = server, keeps_outputs, {}, None
-        self.most = most
+        self.most, self.apart = most, apart
 
     def forget(self, text: bytes) -> None:
         """Forgets the paths that a reply names, one a line: they have been deleted."""
         for line in text.decode().splitlines():
             self.objects.pop(line.rpartition("/")[2], None)
 
-    async def ask(self, caller: Caller, target: str) -> list[str]:
+    async def ask(self, caller: Caller, target: str) -> bytes:
         reply = await self.server.ask(caller, "GET", target)
         if reply.status != 200:
             raise Denied(reply)
-        return reply.text.decode().splitlines()
+        return reply.text
+
+    def refuse_many(self, text: bytes, what: str, known: int = 0) -> None:
+        """Raises TooMany for a listing that isn't read. (A long label takes as much memory as many short ones.)"""
+        most, count = self.most(known), text.count(b"\n")
+        if most is not None and max(count, len(text) // LINE) > most:
+            raise TooMany(count, what)
 
     async def store(self, caller: Caller) -> tuple[store_file.Store, set[str]]:
         """The Store as a caller sees it, and the set of live paths by the server's own word. Raises Denied, TooMany or
         Unreachable."""
-        lines = await self.ask(caller, "/paths")
-        if self.most is not None and len(lines) > self.most:
-            raise TooMany(len(lines))
+        text = await self.ask(caller, "/paths")
         if self.connection != self.server.connections:
             self.objects, self.connection = {}, self.server.connections
-        listed = [line.rpartition("/")[2] for line in lines]
-        store_dir = lines[0].rpartition("/")[0] if lines else paths.STORE
+        self.refuse_many(text, "objects", len(self.objects))
+        listed, store_dir = await self.apart(bases_of, text)
         await self.read([it for it in listed if it not in self.objects], caller, store_dir)
         objects = {it: self.objects[it] for it in listed if it in self.objects}
         self.objects = objects
-        roots = [root(*line.split(" ")) for line in await self.ask(caller, "/roots")]
-        roots = [it._replace(target=it.target.rpartition("/")[2]) for it in roots]
-        live = {line.rpartition("/")[2] for line in await self.ask(caller, "/live")}
-        return store_file.Store(None, store_dir, objects, [it for it in roots if it.target in objects], {}), live
+        text = await self.ask(caller, "/roots")
+        self.refuse_many(text, "roots")
+        roots = await self.apart(roots_of, text)
+        live, _ = await self.apart(bases_of, await self.ask(caller, "/live"))
+        return store_file.Store(None, store_dir, objects, [it for it in roots if it.target in objects], {}), {*live}
 
     async def read(self, bases: list[str], caller: Caller, store_dir: str) -> None:
         # (an object that has been deleted meanwhile is left out)
@@ -158,7 +180,7 @@ class Records:
         meanwhile."""
         reply = await self.server.ask(caller, "GET", f"/nar/{base}")
         if reply.status == 200:
-            recorded = await asyncio.to_thread(outputs, reply.text, store_dir)
+            recorded = await self.apart(outputs, reply.text, store_dir)
             # (it may have been deleted by now)
             if base in self.objects:
                 self.objects[base] = self.objects[base]._replace(outputs=recorded)

@@ -73,6 +73,15 @@ def resident(process: int | str = "self") -> int:
         return int(file.read().split()[1]) * os.sysconf("SC_PAGE_SIZE")
 
 
+def highest(process: int) -> int:
+    """The most bytes of memory that a process has had. Raises OSError or ValueError for one that has ended."""
+    with open(f"/proc/{process}/status", encoding="ascii", errors="replace") as file:
+        found = [int(line.split()[1]) << 10 for line in file if line.startswith("VmHWM:")]
+    if not found:
+        raise ValueError("a process that has ended")
+    return found[0]
+
+
 def opened_with(limit: int) -> int:
     """The bytes of the largest file that a server opens with so much memory: docs/OPERATING.md, Growth."""
     left = max(0, limit - REST)
