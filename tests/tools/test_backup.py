@@ -604,7 +604,7 @@ def test_a_server_that_may_not_open_again(unit, machine, swap, start, line, monk
 
 
 @pytest.mark.parametrize("status, kind, page, start", [
-    (200, "text/plain; version=0.0.4", b"# HELP x\nnixkeep_start_memory_bytes 1.25e+09\nnixkeep_up 1.0\n", 1_250_000_000),
+    (200, "text/plain; version=0.0.4", b"# HELP x\nnixkeep_start_memory_bytes 1.25e+09\nx 1.0\n", 1_250_000_000),
     (200, "text/plain", b"nixkeep_start_memory_bytes 5000.0\n", 5_000), (200, "text/plain", b"nixkeep_up 1.0\n", 0),
     (200, "text/plain", b"nixkeep_start_memory_bytes nan\n", 0), (404, "text/plain", b"refused: 39 no-route\n", 0),
     (404, "text/plain", b"the metrics need the Debian package python3-prometheus-client\n", 0)])

@@ -63,8 +63,8 @@ def swap():
 
 
 def refuse_large(text: str, unit: str, start: int) -> None:
-    """Raises Stop if a server with the archives of this report, or one whose start takes so many bytes of memory, may
-    not fit into its memory."""
+    """Raises Stop if a server with the archives of this report may not fit into its memory, or one whose start takes
+    `start` bytes."""
     size, (limit, whose) = int(backup_file.TOTAL.search(text)[2]), memory_of(unit)
     if size > limit * OPENS:
         raise Stop(f"failed: memory: {whose} {limit} bytes, in which a store of {size} bytes may not open: the server "

@@ -96,7 +96,7 @@ class Overviews:
             return await self.apart(overview.Overview, store, *self.keeps, live)
 
     def most(self, known: int) -> int:
-        """The objects of which there may be figures, or the roots: so many of them are in memory already."""
+        """How many objects there may be figures of, or how many roots, where `known` of them are in memory already."""
         left = self.left()
         return LINES if left is None else min(LINES, known + left // EACH)
 
