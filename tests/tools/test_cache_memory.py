@@ -118,8 +118,8 @@ def test_adds_are_refused_before_roots():
         limit.check(1, is_add)
     had[0] += 1 << 20
     limit.check(1, False)
-    text = "nixkeep-cache and the server's next start take [0-9]+ of 3221225472 bytes of memory: drop roots, collect, and"
-    with pytest.raises(cache_limit.Full, match=f"^failed: full {text} start it again\n$"):
+    text = "nixkeep-cache and the server's next start take [0-9]+ of 3221225472 bytes of memory: drop roots, collect,"
+    with pytest.raises(cache_limit.Full, match=f"^failed: full {text} and start it again\n$"):
         limit.check(1)
     opened[0] = None
     limit.check(1)
