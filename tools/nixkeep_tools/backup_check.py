@@ -6,6 +6,7 @@ import os
 import re
 import sqlite3
 import subprocess
+from collections.abc import Iterator
 from pathlib import Path
 
 from . import as_owner, backup_file, store_file, store_size
@@ -21,7 +22,7 @@ START = re.compile(r"^nixkeep_start_memory_bytes ([0-9]{1,20}(?:\.[0-9]{1,20})?(
 
 
 @contextlib.contextmanager
-def server_of(url, config):
+def server_of(url: str, config: str | None) -> Iterator[Server]:
     """A server, which is asked for the first caller of its configuration."""
     user, group = backup_file.caller(backup_file.settings(config))
     server = Server(Place(url), {"store-user": user, **({"store-group": group} if group else {})})
@@ -39,7 +40,7 @@ def report_of(server):
     return text
 
 
-def start_of(server):
+def start_of(server: Server) -> int:
     """The bytes of memory that a server's next start takes by the figures of nixkeep-cache, or 0 if there are none."""
     try:
         found = START.search(server.ask("GET", "/metrics", is_repeated=True).text(FIGURES))

@@ -21,7 +21,7 @@ BEGIN = (13).to_bytes(8, "little") + b"nix-archive-1"
 WINDOW, LATER, HEAD, OF_XZ = 32 << 20, 8 << 20, 18, 72 << 20
 
 # The memory in which an archive becomes a blob, besides that of its compression, and that in which it is unpacked.
-PACKING, UNPACKING = 32 << 20, {"none": 0, "xz": OF_XZ, "zstd": WINDOW}
+PACKING, UNPACKING = 44 << 20, {"none": 0, "xz": OF_XZ, "zstd": WINDOW}
 
 # `sent` is the SHA-256 of what came; the others are of the archive, and of its file in the blobs.
 Packed = collections.namedtuple("Packed", "sent nar_hash nar_size file_hash file_size")

@@ -24,7 +24,7 @@ BODY = 20_971_520
 # those from which on a body needs room: a user may have thousands that wait for one another.
 LARGE, PIECE, SMALL = 65_536, 1 << 18, 4096
 # The bytes of replies that are in memory while clients take them, and the threads that unpack and compress.
-ROOM, THREADS = 160 << 20, 4
+ROOM, THREADS = 144 << 20, 4
 # The bytes that are received at once, but for a body that is read: it may wait for its room, as those of a thousand
 # others do.
 FIRST = 1 << 14

@@ -26,7 +26,7 @@ INFO = 1_200_000
 # The archives that are unpacked at once, and the bytes that each has in memory: its file, the archive with what it is
 # unpacked in, and once more with its head. The bytes of records in memory, and how many times one is there: as it came,
 # its fields, and the head of an import.
-MANY, UNPACKED = 3, 56 << 20
+MANY, UNPACKED = 3, 60 << 20
 RECORDS, TIMES = 32 << 20, 3
 ARCHIVE, OTHER = re.compile(r"/nar/(.*)"), re.compile(r".*")
 

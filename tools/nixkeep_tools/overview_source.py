@@ -74,7 +74,7 @@ def sized(item, archive, path):
 # ---- from a server
 
 
-def root(label, target):
+def root(label: str, target: str) -> store_file.Root:
     """A root of a line in the listing of roots. A runtime root's label may be any text. One that is hidden from this
     caller is a runtime root's or a session's, which may be their own."""
     if label == CENSORED:
