@@ -1,6 +1,7 @@
 """Tests of the heads that nixkeep-cache refuses, whoever passes them on, and of requests that come ahead of a reply."""
 import asyncio
 import contextlib
+import itertools
 import re
 import socket
 import types
@@ -8,11 +9,14 @@ import types
 import pytest
 from aiohttp import http
 from aiohttp.http_exceptions import BadHttpMessage
+from hypothesis import given, settings
+from hypothesis import strategies as draw
 
+from nixkeep_dev.testing import drawn
 from nixkeep_tools import cache_heads
 from tests.tools.test_cache_at_once import LAST, OTHER, stores
 
-pytestmark = pytest.mark.needs("curl", "python3-aiohttp")
+pytestmark = pytest.mark.needs("curl", "python3-aiohttp", "python3-hypothesis")
 # Lines of a head that are no field: RFC 9112, section 5.1, and RFC 9110, section 5.6.2.
 NO_FIELDS = {
     "no name": b": x", "no name and no value": b":", "no name, twice": b"::", "a blank as a name": b" : x",
@@ -119,6 +123,42 @@ def test_heads_in_pieces(size):
 
     fields = ((b"A-1", b"b : c "), (b"content-length", b"9"))
     assert asyncio.run(run()) == [(fields, b": x\r\n\r\n: ")] * 3
+
+
+def bytes_of(line_end, fields, body):
+    """A request with these fields, and a body if there is one."""
+    length = [] if body is None else [b"content-length: %d" % len(body)]
+    return line_end.join([b"GET /x HTTP/1.1", *fields, *length, b"", body or b""])
+
+
+def read_by(feed, pieces):
+    # (what has no body has no buffer)
+    found = [it for piece in pieces for it in feed(piece)[0]]
+    return [(it.raw_headers, b"".join(getattr(payload, "_buffer", []))) for it, payload in found]
+
+
+@settings(max_examples=500, derandomize=True, **drawn.SETTINGS)
+@given(draw.lists(draw.builds(bytes_of, draw.sampled_from([b"\r\n", b"\n"]), draw.lists(draw.sampled_from(FIELDS)),
+                              draw.none() | draw.binary() | draw.sampled_from([*NO_FIELDS.values()]))),
+       draw.lists(draw.integers(1, 50), min_size=1))
+def test_requests_are_those_of_aiohttp(requests, sizes):
+    """However many they are, and in whatever pieces they come."""
+    sent, ends = b"".join(requests), [*itertools.accumulate(itertools.islice(itertools.cycle(sizes), 2000))]
+
+    async def run():
+        made, _ = parser()
+
+        def feed(piece):
+            found = made.feed_data(piece)[0]
+            made.is_asked = False
+            return found, False, b""
+
+        # (an empty piece is a turn of what is held)
+        pieces = [sent[begin:end] for begin, end in zip([0, *ends], ends)] + [b""] * len(requests)
+        return read_by(feed, pieces), read_by(parser()[0].parser.feed_data, [sent])
+
+    came, wanted = asyncio.run(run())
+    assert came == wanted and len(came) == len(requests)
 
 
 def test_nothing_follows_a_head_that_is_refused():
