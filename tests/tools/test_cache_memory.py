@@ -16,11 +16,11 @@ from parts import TOOLS
 pytestmark = pytest.mark.needs("python3-aiohttp", "python3-zstandard")
 UNIT = Path(f"{HERE}/packaging/nixkeep@.service").read_text()
 MEMORY = int(re.search(r"^MemoryMax=(\d+)G$", UNIT, re.M)[1]) << 30
-# Makes an archive of 16 MB, or a larger one, in a file; half of it can't be compressed.
+# Makes an archive of 16 MB, or a larger one, in a file; a part of it can't be compressed.
 MAKE = """import lzma, os, sys, zstandard
 from nixkeep_tools.blob_packing import BEGIN
-file, size, compression = sys.argv[1], int(sys.argv[2]), sys.argv[3]
-data = BEGIN + os.urandom(size // 2)
+file, size, compression, random = sys.argv[1], int(sys.argv[2]), sys.argv[3], int(sys.argv[4])
+data = BEGIN + os.urandom(random)
 data += bytes(size - len(data))
 if compression == "xz":
     data = lzma.compress(data, filters=[{"id": lzma.FILTER_LZMA2, "preset": 0, "dict_size": 64 << 20}])
@@ -142,14 +142,16 @@ def test_a_warning_of_memory(opened, is_full, folder, capsys):
 @pytest.mark.parametrize("compression, suffix", [("none", ""), ("xz", ".xz"), ("zstd", ".zst")])
 def test_an_archive_that_is_unpacked(folder, compression, suffix):
     """The longest archive of the store, in what asks for most memory."""
-    ran(MAKE, file := f"{folder}/file", nar.LIMIT, compression)
+    ran(MAKE, file := f"{folder}/file", nar.LIMIT, compression, nar.LIMIT // 2)
     assert int(ran(TOOK % SMALL, file, f"{'0' * 52}.nar{suffix}")) <= cache_uploads.UNPACKED
 
 
 @pytest.mark.parametrize("compression", blob_packing.UNPACKING)
 def test_a_large_archive(folder, compression):
     """It takes as much room as memory, whatever its size."""
-    ran(MAKE, file := f"{folder}/file", 100 << 20, compression)
+    # (xz takes a second for each of these MB)
+    random = 4 << 20 if compression == "xz" else 50 << 20
+    ran(MAKE, file := f"{folder}/file", 100 << 20, compression, random)
     took = int(ran(TOOK % LARGE, file, compression))
     assert took <= blob_packing.memory(compression, 1) <= cache_blobs.COMING
 
