@@ -12,10 +12,15 @@ CACHE, REST = 255 << 20, 200_000_000
 CGROUPS, OWN = "/sys/fs/cgroup", "/proc/self/cgroup"
 
 
+def opened(file):
+    # (whoever has taken a service over may put a pipe there, which isn't waited for)
+    return open(file, "rb", buffering=0, opener=lambda name, flags: os.open(name, flags | os.O_NONBLOCK))
+
+
 def used(file: str) -> int:
     """The bytes of the pages that a store's file uses, with those in its log. Other processes may have it open."""
-    with open(file, "rb") as data:
-        head = data.read(100)
+    with opened(file) as data:
+        head = data.read(100) or b""
     size, pages, free = (int.from_bytes(head[at : at + more], "big") for at, more in ((16, 2), (28, 4), (36, 4)))
     pages, free = of_log(store_file.log_of(file)) or (pages, free)
     return (pages - free) * (size if size != 1 else 65_536)
@@ -26,8 +31,8 @@ def of_log(file):
 
     Frames that are left from before the log was begun anew have another salt.
     """
-    with contextlib.suppress(FileNotFoundError), open(file, "rb", buffering=0) as log:
-        head, at, first, last = log.read(32), 32, None, None
+    with contextlib.suppress(FileNotFoundError), opened(file) as log:
+        head, at, first, last = log.read(32) or b"", 32, None, None
         size = int.from_bytes(head[8:12], "big") if len(head) == 32 else 0
         while size and len(frame := os.pread(log.fileno(), 24, at)) == 24 and frame[8:16] == head[16:24]:
             number, pages = struct.unpack(">2I", frame[:8])
