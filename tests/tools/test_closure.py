@@ -305,7 +305,8 @@ def test_a_disk_that_fills_meanwhile(most, made, kept):
     status, output, errors = closure(None, *words, made.top)
     # (of an object on its way it isn't known whether it came)
     there = int(re.search(r"(\d+) w(?:as|ere) there$", output)[1])
-    assert (status, errors) == (0, "") and re.match(f"copied {COUNT - there} objects", output) and there - sent in (0, 1)
+    assert (status, errors) == (0, "") and re.match(f"copied {COUNT - there} objects", output)
+    assert there - sent in (0, 1)
 
 
 def test_stores_that_are_not_those_that_are_meant(made):
