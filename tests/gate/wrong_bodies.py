@@ -43,7 +43,7 @@ WHAT = "wrong bodies"
 
 @functools.cache
 def changed():
-    return recorded.changed_crates(bodies.having(), program.listed())
+    return recorded.changed_crates(bodies.having_bodies(), program.listed())
 
 
 def of_bodies(crate):
@@ -64,7 +64,7 @@ def chosen(words):
         keys |= {*bodies.others_of_day(words.day)}
         crates, equal = days.in_turn(crates, words.day, bodies.DAYS), bodies.equal_of_day(words.day)
     # (those of changed crates come first, so that a bound leaves out others)
-    crates = sorted(crates, key=lambda it: it not in now)
+    crates = sorted(crates, key=lambda crate: crate not in now)
     tried = lambda crate: [edit for edit in of_bodies(crate) if crate in now or edit.key() in keys]
     return [edit for crate in crates for edit in [*tried(crate), *(equal_of(crate) if crate in equal else [])]]
 
@@ -90,18 +90,18 @@ def tried(request, words):
         running = {crate: pool.submit(begin, crate) for crate in by_crate}
         yield running
         pool.shutdown(cancel_futures=True)
-    tell(words, [it.result() for it in running.values() if not it.cancelled()], named)
+    tell(words, [future.result() for future in running.values() if not future.cancelled()], named)
 
 
 def tell(words, done, named):
     """Has the last lines say what came of all edits, and records the sums of crates if that is to be."""
-    for it in done:
-        kinds = [verdict.kind for edit, verdict in it.verdicts.items() if not edit.is_equal()]
+    for result in done:
+        kinds = [verdict.kind for edit, verdict in result.verdicts.items() if not edit.is_equal()]
         refused = sum(kind in (Kind.REFUSED, Kind.BY_SEARCH) for kind in kinds)
-        report.ends_with(f"{it.crate}: {refused} of {len(kinds)} wrong bodies refused in {it.seconds:.0f} s, of them"
-                         f" {kinds.count(Kind.BY_SEARCH)} by a search alone; {len(it.verdicts) - len(kinds)} equal ones"
-                         " tried")
-        for edit, verdict in it.verdicts.items():
+        report.ends_with(f"{result.crate}: {refused} of {len(kinds)} wrong bodies refused in {result.seconds:.0f} s,"
+                         f" of them {kinds.count(Kind.BY_SEARCH)} by a search alone;"
+                         f" {len(result.verdicts) - len(kinds)} equal ones tried")
+        for edit, verdict in result.verdicts.items():
             if verdict.kind == Kind.BY_SEARCH:
                 report.ends_with(f"  by a search alone: {edit}")
             elif not edit.is_equal() and is_known(edit):
@@ -109,9 +109,10 @@ def tell(words, done, named):
     if words.option("--changed"):
         report.ends_with(f"changed since {recorded.NAME} got their sums: {' '.join(changed()) or 'none of its crates'}")
     if words.option("--record"):
-        whole = [it for it in done if {*of_bodies(it.crate), *equal_of(it.crate)} == {*it.verdicts}]
-        recorded.record([it.crate for it in whole if not any(wrong(*came) for came in it.verdicts.items())], named)
-    verdicts = [verdict for it in done for edit, verdict in it.verdicts.items() if not edit.is_equal()]
+        whole = [result for result in done if {*of_bodies(result.crate), *equal_of(result.crate)} == {*result.verdicts}]
+        recorded.record([result.crate for result in whole
+                         if not any(wrong(*came) for came in result.verdicts.items())], named)
+    verdicts = [verdict for result in done for edit, verdict in result.verdicts.items() if not edit.is_equal()]
     words.tell(WHAT, len(bodies.every(True)), verdicts)
 
 

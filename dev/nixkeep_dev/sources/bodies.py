@@ -57,7 +57,8 @@ class Edit:
 def sources(crate: str, part: str = "src") -> dict[str, str]:
     """The texts of a crate's sources, or of its specs, by their path in it."""
     top = Path(f"{program.HERE}/crates/{crate}")
-    return {str(it.relative_to(top)): it.read_text(encoding="utf-8") for it in top.glob(f"{part}/**/*") if it.is_file()}
+    return {str(file.relative_to(top)): file.read_text(encoding="utf-8") for file in top.glob(f"{part}/**/*")
+            if file.is_file()}
 
 
 @functools.cache
@@ -69,8 +70,9 @@ def further(crate: str, folder: str = "further") -> list[Edit]:
 
 def mistakes() -> list[tuple[str, list]]:
     """The mistakes of the table, each with pairs: of a crate and a name, or of what else notices it and its name."""
-    lines = [it for it in Path(f"{program.HERE}/{MISTAKES}").read_text().splitlines() if it and not it.startswith("#")]
-    return [(mistake, [tuple(it.split()) for it in by.split(", ")]) for mistake, _, by in
+    lines = [line for line in Path(f"{program.HERE}/{MISTAKES}").read_text().splitlines()
+             if line and not line.startswith("#")]
+    return [(mistake, [tuple(pair.split()) for pair in by.split(", ")]) for mistake, _, by in
             (line.rpartition(": ") for line in lines)]
 
 
@@ -78,14 +80,19 @@ def mistakes() -> list[tuple[str, list]]:
 def always() -> list[tuple]:
     """The edits that the gate always tries, those of the mistakes and the wrong definitions of the laws: pairs of a
     crate and a name."""
-    of_mistakes = [it for _, by in mistakes() for it in by if it[0] not in ELSEWHERE]
-    return [*dict.fromkeys([*of_mistakes, *((crate, it.name) for crate, it in every(False) if crate == LAWS)])]
+    of_mistakes = [pair for _, by in mistakes() for pair in by if pair[0] not in ELSEWHERE]
+    return [*dict.fromkeys([*of_mistakes, *((crate, edit.name) for crate, edit in every(False) if crate == LAWS)])]
 
 
 @functools.cache
 def every(of_bodies: bool) -> list[tuple[str, Edit]]:
     """All further edits of bodies, or all others: pairs of a crate and the edit."""
-    return [(crate, it) for crate in having() for it in further(crate) if it.is_of_bodies() == of_bodies]
+    return [(crate, edit) for crate in having() for edit in further(crate) if edit.is_of_bodies() == of_bodies]
+
+
+def having_bodies() -> list[str]:
+    """The crates that have further edits of bodies."""
+    return sorted({crate for crate, _ in every(True)})
 
 
 @functools.cache
@@ -95,8 +102,8 @@ def others() -> list[list]:
     groups = []
     for crate, edit in every(True):
         if (crate, edit.name) not in always():
-            free = [it for it in groups if it[0][0] == crate
-                    and not any({*edit.functions} & {*one.functions} for _, one in it)]
+            free = [group for group in groups if group[0][0] == crate
+                    and not any({*edit.functions} & {*one.functions} for _, one in group)]
             if free:
                 free[0].append((crate, edit))
             else:
@@ -123,7 +130,7 @@ def crates_below(edit: Edit) -> list[str]:
 def others_of_day(day: int) -> list[tuple]:
     """The edits of bodies that the gate tries on a day, but for those that it always tries: pairs of a crate and a
     name."""
-    on = days.balanced(others(), lambda it: CHECK + len(it) * HEAVY.get(it[0][0], 1), DAYS)[day % DAYS]
+    on = days.balanced(others(), lambda group: CHECK + len(group) * HEAVY.get(group[0][0], 1), DAYS)[day % DAYS]
     return names(days.in_turn(on, day, DAYS))
 
 
@@ -134,12 +141,12 @@ def definitions_of_day(day: int) -> list[tuple]:
 
 def names(lists: Iterable[list]) -> list[tuple]:
     """The edits of these lists, as pairs of a crate and a name."""
-    return [(crate, it.name) for edits in lists for crate, it in edits]
+    return [(crate, edit.name) for edits in lists for crate, edit in edits]
 
 
 def having_equal() -> list[str]:
     """The crates that have edits which change nothing."""
-    return [it for it in having() if glob.glob(f"{program.HERE}/crates/{it}/{EQUAL}/*.edit")]
+    return [crate for crate in having() if glob.glob(f"{program.HERE}/crates/{crate}/{EQUAL}/*.edit")]
 
 
 def equal_of_day(day: int) -> list[str]:
@@ -196,7 +203,7 @@ class Check:
     proofs."""
 
     def __init__(self, crate: str, output: str, edited: Iterable[str]):
-        self.crate, self.output, self.edited = crate, output, {plain(it) for it in edited}
+        self.crate, self.output, self.edited = crate, output, {plain(name) for name in edited}
         self.said = dict(re.findall(rf"^fn {crate}::(\S+): (.*)", output, re.M))
         self.errors = collections.defaultdict(list)
         for folder, text in ERROR.findall(output):
@@ -211,8 +218,8 @@ class Check:
         """The functions that were changed, that aren't proved and that this one calls, its own closures left out."""
         own = {name: text for name, text in self.said.items() if f"{plain(name)}::".startswith(f"{plain(function)}::")}
         calls = CALLS.findall("\n".join(own.values()))
-        named = {plain(it.removeprefix(f"{self.crate}::")) for it in re.findall(r"`(.*?)`", " ".join(calls))}
-        return (named & self.edited) - {plain(it) for it in own}
+        named = {plain(name.removeprefix(f"{self.crate}::")) for name in re.findall(r"`(.*?)`", " ".join(calls))}
+        return (named & self.edited) - {plain(name) for name in own}
 
     def is_proved(self, function: str) -> bool:
         """Whether a function is proved, over others that are only stated."""
@@ -235,12 +242,12 @@ class Check:
 
     def is_by_search_alone(self, function: str) -> bool:
         """Whether a function is refused for a search alone that found no proof, as it may of a goal that is true."""
-        errors = [it for it in self.errors_of(function) if is_of_meaning(it)]
+        errors = [error for error in self.errors_of(function) if is_of_meaning(error)]
         return "did not prove" in self.said.get(function, "") and not errors
 
     def why_not(self, function: str) -> str:
         """What was said of a function that isn't refused for what its body does."""
-        errors = [it.split("\n")[0] for it in self.errors_of(function)]
+        errors = [error.split("\n")[0] for error in self.errors_of(function)]
         said = self.said.get(function, "nothing is said of it")
         return f"{function}: {'; '.join([said, *errors[:2]])}"
 

@@ -60,8 +60,8 @@ def contract(lines, at):
         line = lines[number]
         if line.strip() and len(line) - len(line.lstrip()) == indent and not line.lstrip().startswith((")", ">")):
             break
-        if it := ENSURES.match(line):
-            clauses.append(it[1] or DASH)
+        if match := ENSURES.match(line):
+            clauses.append(match[1] or DASH)
     return clauses
 
 
@@ -82,15 +82,15 @@ def declared(crate, module, name, shown):
 
 def functions_of(crate, module, name, shown):
     """The functions alone among the calls of a name."""
-    yield from (it for it in declared(crate, module, name, shown) if it[0] == f"{shown}::{name}")
+    yield from (entry for entry in declared(crate, module, name, shown) if entry[0] == f"{shown}::{name}")
 
 
 def exports(crate):
     """What the root file of a crate exports: pairs of a module or crate and a name, and the public modules."""
     root = source(f"crates/{crate}/src/lib.rt")
-    for it in re.finditer(r"^pub use ([\w:]+)::(?:\{([^}]*)\}|(\w+));", root, re.M):
-        for name in re.split(r",\s*", (it[2] or it[3]).strip().rstrip(",")):
-            yield it[1], name.strip()
+    for match in re.finditer(r"^pub use ([\w:]+)::(?:\{([^}]*)\}|(\w+));", root, re.M):
+        for name in re.split(r",\s*", (match[2] or match[3]).strip().rstrip(",")):
+            yield match[1], name.strip()
     for module in re.findall(r"^pub mod (\w+);", root, re.M):
         yield module, None
 
@@ -102,7 +102,8 @@ def calls_of(crate: str, shown: str | None = None) -> dict[str, list]:
         first = module.split("::")[0]
         if name is None:
             path = f"crates/{crate}/src/{module}.rt"
-            calls |= {f"{shown}::{module}::{it}": clauses for owner, it, clauses in functions_in(path) if not owner}
+            calls |= {f"{shown}::{module}::{function}": clauses
+                      for owner, function, clauses in functions_in(path) if not owner}
         elif exists(f"crates/{crate}/src/{first}.rt"):
             calls |= dict(declared(crate, module, name, shown))
         elif first not in PUBLIC and exists(f"crates/{first}/src/lib.rt"):
@@ -115,12 +116,12 @@ def passed_on(crate, module, name, shown):
     if module:
         yield from functions_of(crate, module, name, shown)
         return
-    for where, it in exports(crate):
+    for where, exported in exports(crate):
         first = where.split("::")[0]
-        if it == name and exists(f"crates/{crate}/src/{first}.rt"):
+        if exported == name and exists(f"crates/{crate}/src/{first}.rt"):
             calls = declared if PARTS.get(crate) == shown else functions_of
             yield from calls(crate, where, name, shown)
-        elif it == name and first not in PUBLIC and exists(f"crates/{first}/src/lib.rt"):
+        elif exported == name and first not in PUBLIC and exists(f"crates/{first}/src/lib.rt"):
             yield from passed_on(first, where.partition("::")[2], name, shown)
 
 

@@ -50,7 +50,7 @@ def check_stated(crate: str, named: dict[str, list], texts: dict[str, str], edit
         for path, text in texts.items():
             Path(f"{room}/{path}").write_text(text, encoding="utf-8")
         functions.leave_proofs_open(room, crate, stated)
-        only = [it for function in sorted(edited) for it in ("--only", function)]
+        only = [word for function in sorted(edited) for word in ("--only", function)]
         words = program.words_of(crate, named, lambda library: f"{HERE}/crates/{library}/out/rlib", 1)
         ran = rattle([*words, "--incremental", kept, *only], room)
     return bodies.Check(crate, ran.stdout, edited)
@@ -60,18 +60,18 @@ def check_sources(among: list[str], named: dict[str, list], room: str, only: Ite
                   kept: str) -> tuple[int, str]:
     """A check of the last of these crates of a copy, or of these functions of it, over the sources of the others, which
     are lowered and checked with it: its status and what it said."""
-    crate, kit, folder = among[-1], program.toolchain(), lambda it: f"{HERE}/crates/{it}/out/rlib"
+    crate, kit, folder = among[-1], program.toolchain(), lambda name: f"{HERE}/crates/{name}/out/rlib"
     words = ["--crate-name", crate, "src/lib.rt", "--jobs", "1"]
-    for library in dict.fromkeys(["std", *(it for one in among for it in named[one])]):
+    for library in dict.fromkeys(["std", *(other for one in among for other in named[one])]):
         if library not in among:
             of = folder(library) if library in named else f"{kit}/rlibs"
             words += ["--extern", f"{library}={of}/{library}.rlib"]
     for library in among[:-1]:
         words += ["--lib", f"{library}=../{library}/src/lib.rt"]
-    below = dict.fromkeys(it for one in among for it in program.with_below(one, named) if it not in among)
+    below = dict.fromkeys(other for one in among for other in program.with_below(one, named) if other not in among)
     for at in [f"{kit}/rlibs", *map(folder, below)]:
         words += ["-L", f"dependency={at}"]
     words += ["--antt-project", f"{kit}/rattle/logic/antt-project.json", "--logic-built", f"{kit}/logic_built"]
-    words += [it for function in only for it in ("--only", function)]
+    words += [word for function in only for word in ("--only", function)]
     ran = rattle([*words, "--incremental", kept], f"{room}/{crate}")
     return ran.returncode, ran.stdout

@@ -48,7 +48,7 @@ def function_above(file, texts, lines, at):
             of_its_own = OF_TYPE.match(line)
             module, owner = owner_of_type(of_its_own, module, texts) if of_its_own else (module, owner_in(line, lines))
             break
-    return name and "::".join(it for it in (module, owner, name) if it)
+    return name and "::".join(part for part in (module, owner, name) if part)
 
 
 def module_of(file):
@@ -74,7 +74,8 @@ def owner_in(line, lines):
     of_trait, _, of_type = HEAD.sub("", line).rpartition(" for ")
     trait, _, argument = of_trait.partition("<")
     words, parameters = re.findall(r"\w+", argument), re.findall(r"\w+", HEAD.match(line)[1] or "")
-    others = [it for it in lines if HEAD.sub("", it).startswith(trait + "<") and it.rpartition(" for ")[2] == of_type]
+    others = [other for other in lines
+              if HEAD.sub("", other).startswith(trait + "<") and other.rpartition(" for ")[2] == of_type]
     is_alone = len(others) < 2 and not {*parameters} & {*words} and "<" not in argument
     plain = lambda text: re.match(r"\w*", text.rpartition("::")[2])[0]
     # (io::Error is IoError there)
@@ -97,7 +98,7 @@ def body_of(lines: list[str], at: int) -> tuple[int, int] | None:
     for number in range(at, len(lines)):
         line = lines[number]
         if line == f"{indent}{{" or line.endswith(" {") and line.startswith(indent) and line[len(indent)] != " ":
-            end = next((it for it in range(number + 1, len(lines)) if lines[it] == f"{indent}}}"), None)
+            end = next((below for below in range(number + 1, len(lines)) if lines[below] == f"{indent}}}"), None)
             return (number, end) if end and end > number + 1 else None
         if line.endswith((";", "}")) and line.startswith(indent) and line[len(indent)] != " ":
             return None
@@ -125,7 +126,7 @@ def stated(texts: dict[str, str], kept: Iterable[str]) -> tuple[dict, list]:
             continue
         if cycle is not None:
             made[file][cycle] = None
-            changed.append("::".join(it for it in (module_of(file), f"+{CYCLE.match(lines[cycle])[1]}") if it))
+            changed.append("::".join(part for part in (module_of(file), f"+{CYCLE.match(lines[cycle])[1]}") if part))
         first, last = body
         made[file][first + 1 : last] = [f"{FUNCTION.match(lines[begin])[1]}    loop {{}}", *[None] * (last - first - 2)]
         changed.append(path)
@@ -147,8 +148,8 @@ def leave_proofs_open(room: str, crate: str, paths: Iterable[str]) -> None:
     for path in paths:
         *above, name = path.split("::")
         folder = Path(room, "proofs", *above)
-        for it in (folder / name, folder / f"+{name}"):
-            shutil.rmtree(it, ignore_errors=True)
+        for place in (folder / name, folder / f"+{name}"):
+            shutil.rmtree(place, ignore_errors=True)
         if not name.startswith("+"):
             (folder / name).mkdir(parents=True)
             text = PROOF.format(module=".".join([crate, "proofs", *above, name]), name=name)

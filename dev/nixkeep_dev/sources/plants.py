@@ -30,15 +30,15 @@ def listed() -> dict[str, list | None]:
 
 def write(by_crate: dict[str, list | None]) -> None:
     comments = [line for line in Path(program.HERE, NAME).read_text().splitlines() if line.startswith("#")]
-    open_ones = [f"{it}: {NOT_RECORDED}" for it, rows in sorted(by_crate.items()) if rows is None]
-    crates = [f"\n{it}:\n" + "".join(f"  {row}\n" for row in sorted(rows)) for it, rows in sorted(by_crate.items())
-              if rows is not None]
+    open_ones = [f"{crate}: {NOT_RECORDED}" for crate, rows in sorted(by_crate.items()) if rows is None]
+    crates = [f"\n{crate}:\n" + "".join(f"  {row}\n" for row in sorted(rows))
+              for crate, rows in sorted(by_crate.items()) if rows is not None]
     Path(program.HERE, NAME).write_text("\n".join([*comments, "", *open_ones, ""]) + "".join(crates))
 
 
 def recorded_crates() -> list[str]:
     """The crates whose accepted bodies the list has, in the order of their names."""
-    return sorted(it for it, rows in listed().items() if rows is not None)
+    return sorted(crate for crate, rows in listed().items() if rows is not None)
 
 
 def of_day(day: int) -> list[str]:
@@ -61,7 +61,7 @@ class Said:
 
     def accepted(self) -> set[str]:
         """The bodies that the contracts accept, without the lines on which their functions are."""
-        return {f"{kind} {it}" for it, kind in self.kinds.items() if kind in ACCEPTED}
+        return {f"{kind} {body}" for body, kind in self.kinds.items() if kind in ACCEPTED}
 
     def is_known(self, row: str) -> bool:
         """Whether this run says what becomes of a body that the list has."""

@@ -24,16 +24,16 @@ def promised(text: str) -> str:
         head = line is not None and functions.FUNCTION.match(line)
         if head and not head[2] and (body := functions.body_of(lines, at)):
             lines[body[0] + 1 : body[1]] = [None] * (body[1] - body[0] - 1)
-    return "\n".join(it for it in lines if it is not None)
+    return "\n".join(line for line in lines if line is not None)
 
 
 def sum_of(crate: str, named: dict[str, list]) -> str:
     """The sum of a crate of crates.txt."""
     *below, _ = program.with_below(crate, named)
     edits = sorted(Path(program.HERE, "crates", crate, "further").glob("*.edit"))
-    own = [*(Path(program.HERE, it) for it in program.files_of(crate)), *edits]
-    texts = [(str(it.relative_to(program.HERE)), it.read_text("utf-8")) for it in own]
-    return hashlib.sha256(repr((texts, [promises_of(it) for it in below])).encode()).hexdigest()
+    own = [*(Path(program.HERE, name) for name in program.files_of(crate)), *edits]
+    texts = [(str(path.relative_to(program.HERE)), path.read_text("utf-8")) for path in own]
+    return hashlib.sha256(repr((texts, [promises_of(library) for library in below])).encode()).hexdigest()
 
 
 @functools.cache
@@ -47,19 +47,19 @@ def promises_of(crate: str) -> str:
 def listed() -> dict[str, str]:
     """What the list has of each crate: the sum at which all of its wrong bodies were refused, or that there is none."""
     lines = Path(program.HERE, NAME).read_text().splitlines()
-    return dict(it.split(": ") for it in lines if it and not it.startswith("#"))
+    return dict(line.split(": ") for line in lines if line and not line.startswith("#"))
 
 
 def record(crates: Iterable[str], named: dict[str, list]) -> None:
     """Writes the present sums of these crates."""
     path = Path(program.HERE, NAME)
-    comments = [it for it in path.read_text().splitlines() if it.startswith("#")]
-    sums = {**listed(), **{it: sum_of(it, named) for it in crates}}
-    path.write_text("\n".join([*comments, *(f"{it}: {sums[it]}" for it in sorted(sums)), ""]))
+    comments = [line for line in path.read_text().splitlines() if line.startswith("#")]
+    sums = {**listed(), **{crate: sum_of(crate, named) for crate in crates}}
+    path.write_text("\n".join([*comments, *(f"{crate}: {sums[crate]}" for crate in sorted(sums)), ""]))
 
 
 def changed_crates(crates: Iterable[str], named: dict[str, list]) -> list[str]:
     """Those of these crates that aren't as they were when the list got their sums, and those that it doesn't name."""
     sums = listed()
-    compared = [it for it in crates if sums.get(it) != NOT_RECORDED]
-    return [it for it in compared if sums.get(it) != sum_of(it, named)]
+    compared = [crate for crate in crates if sums.get(crate) != NOT_RECORDED]
+    return [crate for crate in compared if sums.get(crate) != sum_of(crate, named)]

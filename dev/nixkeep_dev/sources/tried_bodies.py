@@ -59,7 +59,7 @@ def verdict_of_equal(edit, checked):
     """What a check says of an edit that changes nothing."""
     if fault := not_checked(checked):
         return fault
-    refused = [checked.why_not(it) for it in edit.functions if not checked.is_proved(it)]
+    refused = [checked.why_not(name) for name in edit.functions if not checked.is_proved(name)]
     return Verdict(Kind.REFUSED if refused else Kind.SURVIVES, "; ".join(refused))
 
 
@@ -78,11 +78,11 @@ class Tried:
 
     def try_all(self, edits: Iterable[bodies.Edit], is_tried_without: bool) -> Self:
         """Tries wrong bodies, at first without the edits if that is to be, and those that change nothing."""
-        since, wrong = time.monotonic(), [it for it in edits if not it.is_equal()]
+        since, wrong = time.monotonic(), [edit for edit in edits if not edit.is_equal()]
         with tempfile.TemporaryDirectory(prefix="rt-edits-") as kept:
             self.try_bodies(self.proved_without(wrong, kept) if wrong and is_tried_without else wrong, kept)
         with tempfile.TemporaryDirectory(prefix="rt-edits-") as kept:
-            self.try_equal([it for it in edits if it.is_equal()], kept)
+            self.try_equal([edit for edit in edits if edit.is_equal()], kept)
         self.seconds = time.monotonic() - since
         return self
 
@@ -93,9 +93,9 @@ class Tried:
             self.verdicts |= dict.fromkeys(edits, fault)
             return []
         for edit in edits:
-            if fault := [checked.why_not(it) for it in edit.functions if not checked.is_proved(it)]:
+            if fault := [checked.why_not(name) for name in edit.functions if not checked.is_proved(name)]:
                 self.verdicts[edit] = Verdict(Kind.NOT_TRIED, f"not proved without its edit: {'; '.join(fault)}")
-        return [it for it in edits if it not in self.verdicts]
+        return [edit for edit in edits if edit not in self.verdicts]
 
     def try_bodies(self, edits, kept):
         while edits := self.within(edits):

@@ -39,7 +39,8 @@ def errors_of(said):
 
 def unread(said, changed):
     """The errors that a check said of these files, which were changed, and whose text can't be read."""
-    return [it[0] for it in errors_of(said) if it[1].endswith(changed) and (not it[2] or UNREAD.search(it[3]))]
+    return [error[0] for error in errors_of(said)
+            if error[1].endswith(changed) and (not error[2] or UNREAD.search(error[3]))]
 
 
 def judged(status, said, changed):
@@ -50,7 +51,8 @@ def judged(status, said, changed):
         return f"NOT TRIED: a check ended with status {status}:\n{said[-600:]}"
     if faults := unread(said, changed):
         return f"its text can't be read: {faults[0]}"
-    if any(not any(name in it[3] for name in bodies.OF_NAMES) for it in errors_of(said)) or "it is not proved" in said:
+    if any(not any(name in error[3] for name in bodies.OF_NAMES)
+           for error in errors_of(said)) or "it is not proved" in said:
         return None
     return f"NOT REFUSED for what it says:\n{said[-600:]}"
 
@@ -69,7 +71,7 @@ def is_refused_by_some(edit, named, kept, is_tried_without):
     if unread(checked.output, files):
         return False
     # (an error may be of a lemma on which the function's proof depends)
-    not_proved = [it for it in citing if checked.said.get(it, "").startswith("not proved")]
+    not_proved = [name for name in citing if checked.said.get(name, "").startswith("not proved")]
     return any(map(checked.is_refused, citing)) or bool(not_proved and judged(1, checked.output, files) is None)
 
 
@@ -80,10 +82,10 @@ def why_not_over_sources(among, changed, named, kept, is_tried_without):
     with tempfile.TemporaryDirectory(prefix="rt-edit-") as room:
         check = lambda top, only: copies.check_sources(among, named, top, only, f"{kept}/{among[0]}")
         if is_tried_without:
-            [copies.put(it, [], f"{room}/without") for it in among]
+            [copies.put(one, [], f"{room}/without") for one in among]
             if check(f"{room}/without", laws)[0]:
                 return "NOT TRIED: without it the check fails, too"
-        if not all([copies.put(it, changed.get(it, []), room) for it in among]):
+        if not all([copies.put(one, changed.get(one, []), room) for one in among]):
             return "its text doesn't stand once in the sources"
         # (with no law that is refused, all that the crates prove is checked)
         for only in [laws, []] if laws else [[]]:
@@ -96,9 +98,9 @@ def why_not_over_sources(among, changed, named, kept, is_tried_without):
 def why_not(edit, named, kept, is_tried_without):
     """Tries an edit alone, over what was kept of each crate: why it isn't refused, or None."""
     crate, changed = edit.crate, changes_of(edit)
-    among = [it for it in program.with_below(crate, named) if {*program.with_below(it, named)} & {*changed}]
-    for it in among:
-        os.makedirs(f"{kept}/{it}", exist_ok=True)
+    among = [other for other in program.with_below(crate, named) if {*program.with_below(other, named)} & {*changed}]
+    for other in among:
+        os.makedirs(f"{kept}/{other}", exist_ok=True)
     if among == [crate] and is_refused_by_some(edit, named, kept, is_tried_without):
         return None
     return why_not_over_sources(among, changed, named, kept, is_tried_without)
