@@ -32,7 +32,7 @@ def small(run, words, folder):
     Path(f"{folder}/small").write_bytes(nar.archive(b"x" * 300))
     each = {"who": ["--user", "root", "who"], "text-path": ["text-path", "n"], "source-path": ["source-path", "n"],
             "ls": ["ls"], "--help": ["--help"], "help gc": ["help", "gc"]}
-    runs = commands({name: [run.file, *it] for name, it in each.items()}, 51, f"{folder}/small")
+    runs = commands({name: [run.file, *more] for name, more in each.items()}, 51, f"{folder}/small")
     for name, (seconds, _) in runs.items():
         median(name, seconds, 0.005)
 

@@ -99,10 +99,10 @@ def memory(run, words, folder):
     keeps for each statement. It is a bounded number of rows, which 10,000 objects reach."""
     few, many, ends = 10_000, 20_000, {}
     for what in (0, 3, 30, "deriver"):
-        paths = [filled(run, f"{folder}/held-{it}-{what}.db", it, 200, 3 if what == "deriver" else what)
-                 for it in (few, many)]
+        paths = [filled(run, f"{folder}/held-{count}-{what}.db", count, 200, 3 if what == "deriver" else what)
+                 for count in (few, many)]
         ends[what] = [held(run, words.ahead, derived(path) if what == "deriver" else path) for path in paths]
-    pages, each = ({it: (more[at] - less[at]) / (many - few) for it, (less, more) in ends.items()} for at in (0, 1))
+    pages, each = ({name: (more[at] - less[at]) / (many - few) for name, (less, more) in ends.items()} for at in (0, 1))
     title(f"memory of the index from {few:,} to {many:,} objects that are open, apart from pages")
     limit("for each object without a reference", each[0], 400, "bytes")
     limit("for each object with 3 references", each[3], 400, "bytes")
@@ -169,8 +169,8 @@ def copies(run, words, folder):
     path, other, nar = f"{folder}/copies.db", f"{folder}/by-sqlite.db", f"{folder}/copies.nar"
     Path(nar).write_bytes(archive(os.urandom(16 * MIB - 112)))
     size = Path(nar).stat().st_size
-    for it in (path, other):
-        run(it, "list")
+    for file in (path, other):
+        run(file, "list")
     none = copied(run.words(path, "list"), words.ahead)
     ours = {"in, by `add-source` into a file": copied(run.words(path, "add-source", "large"), words.ahead, nar)}
     name = run(path, "list")[1].decode().strip()
@@ -182,10 +182,10 @@ def copies(run, words, folder):
               "out, by `cat-nar`, and of its opening": copied([*python, TAKE, other], words.ahead)}
     title(f"bytes copied for each byte of an archive of {size:,} bytes")
     served_bytes = copied_by_a_server(run, words.ahead, path, name.rpartition("/")[2], Path(nar).read_bytes())
-    for what, it in served_bytes.items():
-        limit(what, it / size, None, "bytes")
-    for what, it in ours.items():
-        each = (it - none) / size
+    for what, count in served_bytes.items():
+        limit(what, count / size, None, "bytes")
+    for what, count in ours.items():
+        each = (count - none) / size
         if what in theirs:
             versus(what, (theirs[what] - nothing) / size, each, None, "python3 and C SQLite", unit="bytes")
         else:
@@ -221,8 +221,8 @@ def instructions(words, folder, given=None):
 def hashed(counts):
     """The instructions of SHA-256, and its blocks."""
     own, calls = counts
-    named = [it for it in own if re.search(COMPRESS, it)]
-    return sum(own[it] for it in named), sum(calls[it] for it in named)
+    named = [name for name in own if re.search(COMPRESS, name)]
+    return sum(own[name] for name in named), sum(calls[name] for name in named)
 
 
 def stored(run, folder, subcommand, given, count=16):
@@ -240,8 +240,8 @@ def digests(run, words, folder):
         return
     plain = os.urandom(MIB - 112)
     files = {"plain": plain, "nar": archive(plain)}
-    for name, it in files.items():
-        Path(f"{folder}/{name}").write_bytes(it)
+    for name, data in files.items():
+        Path(f"{folder}/{name}").write_bytes(data)
     listed = {"objects without an address": filled(run, f"{folder}/plain.db", 16, MIB, 0),
               "sources": stored(run, folder, "add-source", files["nar"]),
               "texts": stored(run, folder, "add-text", plain)}
@@ -269,9 +269,9 @@ def openings(run, words, folder):
     if skipped("valgrind"):
         return
     few, many = (100, 200) if words.quick else (1000, 2000)
-    paths = {it: filled(run, f"{folder}/opened-{it}.db", it, 1024, 3) for it in (few, many)}
-    counted = {it: instructions(run.words(path, "list"), folder) for it, path in paths.items()}
-    whole = [sum(counted[it][0].values()) for it in (few, many)]
+    paths = {count: filled(run, f"{folder}/opened-{count}.db", count, 1024, 3) for count in (few, many)}
+    counted = {count: instructions(run.words(path, "list"), folder) for count, path in paths.items()}
+    whole = [sum(counted[count][0].values()) for count in (few, many)]
     title(f"instructions of `list` from {few:,} to {many:,} objects of 1 KiB with 3 references")
     limit("for each object", (whole[1] - whole[0]) / (many - few), None, "instructions")
     alone = sum(instructions(run.words(foreign(run, paths[many]), "list"), folder)[0].values())

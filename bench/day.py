@@ -59,7 +59,7 @@ class Day:
         self.words = [file, "--config", self.config, "--db", self.file]
         subprocess.run([*self.words, "--user", "root", "list"], check=True)
         self.team = Team(self.file, objects, total, seed)
-        self.users = [User(self.team, self.port, it, seed) for it in (BUILD, *STAFF)]
+        self.users = [User(self.team, self.port, name, seed) for name in (BUILD, *STAFF)]
         self.root = User(self.team, self.port, "root", seed)
 
     def serving(self):
@@ -94,12 +94,12 @@ class Day:
     def meanwhile(self, pool, call):
         """What users who read see while something else is done: the seconds of that, and of their longest pause."""
         ends = threading.Event()
-        readers = [pool.submit(self.reads, it, ends) for it in STAFF[:4]]
+        readers = [pool.submit(self.reads, name, ends) for name in STAFF[:4]]
         time.sleep(1)
         took = timed(call)
         time.sleep(1)
         ends.set()
-        done = sorted(it.sent + it.took for reader in readers for it in reader.result())
+        done = sorted(request.sent + request.took for reader in readers for request in reader.result())
         return took, max(after - before for before, after in itertools.pairwise(done))
 
     def back_up(self):
@@ -125,7 +125,7 @@ class Day:
                     if at == self.periods // 2 - 1:
                         took["backup"] = self.meanwhile(pool, self.back_up)
                         took["restart"] = self.meanwhile(pool, self.restart)
-            took["memory"] = sum(processes.memory(it) for it in family(self.server.started.pid)) / 1024
+            took["memory"] = sum(processes.memory(pid) for pid in family(self.server.started.pid)) / 1024
         finally:
             self.server.__exit__()
         return took
@@ -133,14 +133,14 @@ class Day:
 
 def show(day, took):
     """Prints the figures."""
-    requests = [it for user in day.users for it in user.requests]
+    requests = [request for user in day.users for request in user.requests]
     limit("requests of users", len(requests) / day.acting, None, "requests each second")
-    kinds = sorted({it.kind for it in requests})
-    for kind, times in [(kind, [it.took for it in requests if it.kind == kind]) for kind in kinds]:
+    kinds = sorted({request.kind for request in requests})
+    for kind, times in [(kind, [request.took for request in requests if request.kind == kind]) for kind in kinds]:
         limit(f"{kind}: half of {len(times):,} within", statistics.median(times), None)
         limit(f"{kind}: 99 of 100 within", statistics.quantiles(times, n=100)[98], None)
     for kind in ("whole store", "collection"):
-        limit(f"{kind}: slowest", max(it.took for it in day.root.requests if it.kind == kind), None)
+        limit(f"{kind}: slowest", max(request.took for request in day.root.requests if request.kind == kind), None)
     limit("a backup through the server, with four users who read", took["backup"][0], None)
     limit("their longest pause meanwhile", took["backup"][1], None)
     limit("a restart", took["restart"][0], None)

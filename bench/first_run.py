@@ -62,12 +62,12 @@ def tell(crates, seconds, work, part, processors):
     title(f"the same without a release: proving and building, {processors} processors")
     limit("time", seconds / 60, MOST.get(processors), "min")
     limit("processor time", work / 60, None, "min")
-    for what, it in zip(("this run", "other work", "nothing"), part):
-        limit(f"share of the processors' time: {what}", 100 * it, None, "%")
+    for what, share in zip(("this run", "other work", "nothing"), part):
+        limit(f"share of the processors' time: {what}", 100 * share, None, "%")
     if crates:
-        most = max(crates, key=lambda it: crates[it]["memory"])
+        most = max(crates, key=lambda crate: crates[crate]["memory"])
         limit(f"memory of the largest process ({most})", crates[most]["memory"] / 1e9, None, "GB")
-    for crate in sorted(crates, key=lambda it: -crates[it]["seconds"])[:5]:
+    for crate in sorted(crates, key=lambda crate: -crates[crate]["seconds"])[:5]:
         limit(f"one of the five longest crates: {crate}", crates[crate]["seconds"] / 60, None, "min")
 
 

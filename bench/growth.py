@@ -81,7 +81,7 @@ def in_turn(actions, calls):
 def grown(run, folder, what, few, many):
     """Prints the exponents between two stores."""
     title(what)
-    stores = [store(run, folder, *it) for it in (few, many)]
+    stores = [store(run, folder, *counts) for counts in (few, many)]
     took = in_turn(commands, [(lambda *words, path=path: run(path, *words)[0], live) for path, live in stores])
     with contextlib.ExitStack() as servers:
         clients = [servers.enter_context(served(run, path)).client for path, _ in stores]

@@ -76,7 +76,7 @@ def each_action(objects, at):
         "delete": (("delete", path), None, "POST", "/delete", "path", ("nix-store", "--delete", path)),
         "gc": (("gc",), None, "POST", "/collect", "nothing", ("nix-store", "--gc")),
     }
-    return {name: Action(*it) for name, it in rows.items()}
+    return {name: Action(*row) for name, row in rows.items()}
 
 
 def put_files(folder):
@@ -86,8 +86,8 @@ def put_files(folder):
         data, written = b"%1024d" % at, b"x" * 1024 + b"%d" % at
         kinds = {"new": data, "nar": archive(data), "text": written, "source": text(f"new{at}", archive(data)),
                  "named": text(f"text{at}", written), "path": lines(("path", base(at))), "nothing": lines()}
-        for name, it in kinds.items():
-            Path(f"{folder}/{name}{at}").write_bytes(it)
+        for name, content in kinds.items():
+            Path(f"{folder}/{name}{at}").write_bytes(content)
     return lambda kind, at: kind and f"{folder}/{kind}{at}"
 
 
@@ -103,26 +103,26 @@ def by(objects, words_of, env=None):
 
 
 def by_command(run, files, path, objects):
-    return by(objects, lambda it, at: (run.words(path, *it.ours), files(it.given, at)))
+    return by(objects, lambda action, at: (run.words(path, *action.ours), files(action.given, at)))
 
 
 def by_remote(run, files, path, objects):
     with served(run, path, SERVER) as server:
         client = [run.remote, "--server", f"http://127.0.0.1:{server.port}", "--as", "root"]
-        return by(objects, lambda it, at: ([*client, *it.ours], files(it.given, at)))
+        return by(objects, lambda action, at: ([*client, *action.ours], files(action.given, at)))
 
 
 def by_curl(run, files, path, objects):
     client = ["curl", "--silent", "--fail", "--header", "store-user: root"]
-    body = lambda it, at: ["--data-binary", f"@{files(it.body, at)}"] if it.body else []
+    body = lambda action, at: ["--data-binary", f"@{files(action.body, at)}"] if action.body else []
     with served(run, path, SERVER) as server:
         place = f"http://127.0.0.1:{server.port}"
-        return by(objects, lambda it, at: ([*client, *body(it, at), f"{place}{it.target}"], None))
+        return by(objects, lambda action, at: ([*client, *body(action, at), f"{place}{action.target}"], None))
 
 
 def by_nix(nix, files, objects):
     named = lambda words, at: [files(word, at) if word == "new" else word for word in words]
-    times = by(objects, lambda it, at: (named(it.theirs, at), None), nix.env)
+    times = by(objects, lambda action, at: (named(action.theirs, at), None), nix.env)
     left = sum(name != ".links" for name in os.listdir(nix.place(STORE)))
     report.same("what is left of a collection by Nix", left, objects - objects // 2)
     return times
@@ -137,7 +137,7 @@ def nix_filled(folder, objects, roots):
     for at in range(objects):
         data, path = at.to_bytes(8, "little") * 128, f"{STORE}/{base(at)}"
         Path(nix.place(path)).write_bytes(data)
-        refs = [f"{STORE}/{base(it)}" for it in range(at + 1, min(at + 4, objects))]
+        refs = [f"{STORE}/{base(number)}" for number in range(at + 1, min(at + 4, objects))]
         made.append((path, archive(data), "", refs))
     nix.register(made)
     for at in roots:
@@ -164,7 +164,7 @@ def nix_crashed(nix, files):
         reader.execute("SELECT count(*) FROM ValidPaths").fetchall()
         nix("nix-store", "--add", files("new", 0))
         kept = [shutil.copy(path + end, f"{path}{end}-crashed") for end in ("", "-wal")]
-    return [(it, it.removesuffix("-crashed")) for it in kept]
+    return [(copy, copy.removesuffix("-crashed")) for copy in kept]
 
 
 def opened_again(pairs, words, env=None):
@@ -231,7 +231,7 @@ def actions(run, words, folder):
     words.has_curl, times = not skipped("curl"), {}
     for objects in sizes:
         times[objects] = measured(run, folder, objects, words)
-        for way in [it for it in WAYS if it in times[objects]]:
+        for way in [name for name in WAYS if name in times[objects]]:
             show(times[objects], objects, way, WAYS[way][1])
     for way, (_, what) in WAYS.items():
         exponents(times, way, what)

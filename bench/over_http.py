@@ -102,14 +102,14 @@ def small(run, words, folder):
 def show_clients(count, ours, theirs):
     """Prints what clients get through nginx, next to those of servers of files. One in a hundred may wait for five
     times as long as half of them do."""
-    if not all(it.rate for it in ours):
+    if not all(result.rate for result in ours):
         return note("no reply came in some round")
     for peer, of_peer in theirs.items():
         rates = [[run.rate for run in runs] for runs in (of_peer, ours)]
         versus("requests", *rates, None, f"{peer}, a file", max, "a second")
     # (a client that waits for its turn isn't in percentiles of those that are answered)
-    limit("how long a client waits on average", [count / it.rate for it in ours], None)
-    half, last = ([it.percentiles[part] for it in ours] for part in (50, 99))
+    limit("how long a client waits on average", [count / result.rate for result in ours], None)
+    half, last = ([result.percentiles[part] for result in ours] for part in (50, 99))
     limit("50th percentile", half, None, of=statistics.median)
     versus("99th percentile", half, last, FAIR, "the 50th", statistics.median)
 
@@ -129,8 +129,8 @@ def clients(run, words, folder):
     title(f"GET /info/{{path}} over {objects:,} objects, 64 clients, by 16 connections that nginx keeps: a mistake")
     with served(run, path, SERVER) as store:
         kept = loads(words, proxied(folder, store.port, "keepalive 16;", KEPT), target, 64)
-    limit("requests", [it.rate for it in kept], None, "a second", of=max)
-    limit("99th percentile", [it.percentiles[99] for it in kept], None, of=statistics.median)
+    limit("requests", [result.rate for result in kept], None, "a second", of=max)
+    limit("99th percentile", [result.percentiles[99] for result in kept], None, of=statistics.median)
 
 
 def large_out(run, words, folder):

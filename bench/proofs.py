@@ -79,7 +79,8 @@ def parted(crate, named, room):
         said = ran.stdout.readlines()
         if ran.wait():
             raise unproved(crate, said)
-        files = sorted((it.stat().st_mtime_ns, it.name.removesuffix(".oantt")) for it in Path(kept).rglob("*.oantt"))
+        files = sorted((file.stat().st_mtime_ns, file.name.removesuffix(".oantt"))
+                       for file in Path(kept).rglob("*.oantt"))
     return [((at - before) / 1e9, crate, name) for (before, _), (at, name) in pairwise(files)]
 
 
@@ -92,7 +93,7 @@ def show(by_crate, above, what):
             limit(f"{crate} {name}", seconds, LONG if is_alone else None)
     title("processor seconds of crates")
     sums = {crate: sum(row[0] for row in rows) for crate, rows in by_crate.items()}
-    for crate in sorted(sums, key=lambda it: -sums[it]):
+    for crate in sorted(sums, key=lambda crate: -sums[crate]):
         limit(f"{crate}, {sum(name != AFTER for *_, name in by_crate[crate])} {what}", sums[crate], None)
     limit("together", sum(sums.values()), None)
 
@@ -115,12 +116,12 @@ def main():
     named = program.listed()
     words = arguments(named)
     crates = words.crates or [*named]
-    below = {it for crate in crates for it in program.with_below(crate, named)[:-1]}
+    below = {library for crate in crates for library in program.with_below(crate, named)[:-1]}
     program.prove(sorted(below))
     with proving.room_with(below) as room, ThreadPoolExecutor(words.at_once) as pool:
         try:
             take = parted if words.modules else timed
-            by_crate = dict(zip(crates, pool.map(lambda it: take(it, named, room), crates)))
+            by_crate = dict(zip(crates, pool.map(lambda crate: take(crate, named, room), crates)))
         except proving.Stopped as stopped:
             sys.exit(str(stopped))
     show(by_crate, words.above, "modules" if words.modules else "functions")

@@ -24,7 +24,7 @@ def store(run, path, objects, target, roots):
     filled(run, path, objects, 200, 0, roots)
     with opened(path) as conn:
         conn.execute("BEGIN")
-        pairs = [(base(it), base(target(it))) for it in range(objects) if it != target(it)]
+        pairs = [(base(number), base(target(number))) for number in range(objects) if number != target(number)]
         conn.executemany("INSERT INTO refs (base, target) VALUES (?1, ?2)", pairs)
         conn.execute("COMMIT")
         conn.execute("PRAGMA wal_checkpoint(TRUNCATE)")
@@ -34,7 +34,7 @@ def store(run, path, objects, target, roots):
 def grouped(run, path, objects):
     """Groups of one object and its ten referrers, some of them with a root."""
     roots = range(1, min(objects, 2 * GROUP * KEPT), 2 * GROUP)
-    return store(run, path, objects, lambda it: it - it % GROUP, roots)
+    return store(run, path, objects, lambda at: at - at % GROUP, roots)
 
 
 def why(client):
@@ -65,13 +65,13 @@ def whole(run, words, folder):
     with served(run, filled(run, f"{folder}/whole.db", words.objects, 200, 3, roots, False)) as server:
         for target in ("/live", "/dead", "/report"):
             ten = rounds(lambda: [server.client.get(target) for _ in range(10)])
-            limit(f"GET {target}", [it / 10 for it in ten], None)
+            limit(f"GET {target}", [seconds / 10 for seconds in ten], None)
 
 
 def one(run, words, folder):
     """Nothing that a walk from it reads would be left out by marking, so it may take as long."""
     title(f"a path to which all of {words.objects:,} objects refer")
-    with served(run, store(run, f"{folder}/one.db", words.objects, lambda it: 0, [1])) as server:
+    with served(run, store(run, f"{folder}/one.db", words.objects, lambda at: 0, [1])) as server:
         marking = rounds(server.client.get, "/live")
         versus("GET /roots-of/{path}", marking, why(server.client), 1, "GET /live")
         versus("POST /delete, which is denied", marking, denied(server.client), 1, "GET /live")

@@ -6,14 +6,14 @@ three, without its cache and with it.
   one, three  how many copies there are; each has been asked for each record once before
 
 Each copy has a server and a nixkeep-cache of its own. nginx has the configuration of examples/team, with its log and
-its limits, which are high enough here for one address. 64 clients of wrk ask for records and archives of 10,000
-objects in turn: first without a cache, then with all of them in nginx's cache, next to the same nginx that has them as
-files, then for archives of which nginx asks every two seconds whether they are still there, and last for records that
-are kept for two seconds, while the servers of the stores are stopped for ten seconds. Prints requests a second, the
-50th and the 99th percentile, replies that weren't 200, and the processor time of the servers meanwhile. Needs the
-Debian packages nginx-light, wrk and python3-aiohttp; all is skipped where one is missing, and it says so. There is no
-TLS and no password: these cost nginx, not the store. With --quick, there are 1,000 objects, and each run takes two
-seconds.
+its limits, which are high enough here for one address. 64 clients of wrk ask for records and archives of 10,000 objects
+in turn: first without a cache, then with all of them in nginx's cache, next to the same nginx that has them as files,
+then for archives of which nginx asks every two seconds whether they are still there, and last for records that are kept
+for two seconds, while the servers of the stores are stopped for ten seconds. Prints requests a second, the 50th and the
+99th percentile (of nginx with files, too), replies that weren't 200, and the processor time of the servers meanwhile.
+Needs the Debian packages nginx-light, wrk and python3-aiohttp; all is skipped where one is missing, and it says so.
+There is no TLS and no password: these cost nginx, not the store. With --quick, there are 1,000 objects, and each run
+takes two seconds.
 """
 import contextlib
 import http.client
@@ -88,6 +88,8 @@ def show(what, load, seconds, least=None, is_fair=True, peer=None):
     half, last = load.percentiles[50], load.percentiles[99]
     limit(f"{what}: 50th percentile", half, None)
     versus(f"{what}: 99th percentile", half, last, FAIR if is_fair else None, "the 50th")
+    if peer:
+        versus(f"{what}: 99th percentile of {peer[0]}", *map(peer[1].percentiles.get, (50, 99)), None, "their 50th")
     limit(f"{what}: replies that aren't 200 or didn't come", load.wrong, 0, "requests")
     limit(f"{what}: processor time of the servers", seconds, None)
 
@@ -111,18 +113,18 @@ def fill(place, targets, folder=None):
 
     def ask(some):
         connection = connection_to(place)
-        for it in some:
+        for target in some:
             # (as wrk asks, since what is kept depends on it)
-            connection.putrequest("GET", it, skip_host=True, skip_accept_encoding=True)
+            connection.putrequest("GET", target, skip_host=True, skip_accept_encoding=True)
             for key, value in SAYS.items():
                 connection.putheader(key, value)
             connection.endheaders()
             reply = connection.getresponse()
             text = reply.read()
             if reply.status != 200:
-                sys.exit(f"{it}: {reply.status} {text[:300]}")
+                sys.exit(f"{target}: {reply.status} {text[:300]}")
             if folder:
-                file = Path(f"{folder}{it}")
+                file = Path(f"{folder}{target}")
                 file.parent.mkdir(parents=True, exist_ok=True)
                 file.write_bytes(text)
 
@@ -199,8 +201,8 @@ def copies_of(words, count):
             shutil.copy(f"{folder}/store.db", place)
             server = parts.server(words.file, place, f"{folder}/store.toml", f"{place}/store.db")
             copies.append((server, parts.cache(place, server.place, f"{place}/socket")))
-            for it in copies[-1]:
-                running.enter_context(it)
+            for part in copies[-1]:
+                running.enter_context(part)
         named = f"{count} {'copy' if count == 1 else 'copies'}"
         title(f"{CLIENTS} clients through nginx over {named} of {words.objects:,} objects")
         targets = targets_of(f"{folder}/store.db")

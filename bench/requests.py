@@ -140,7 +140,7 @@ def looks(run, words, folder):
         for what, targets in (("GET /info/{path}", [f"/info/{base(number)}" for number in range(0, 10_000, 5)]),
                               ("GET /paths", ["/paths"] * 10), ("GET /roots, where there is none", ["/roots"] * 2000)):
             each = rounds(lambda: [server.client.get(target) for target in targets])
-            limit(what, [it / len(targets) for it in each], None)
+            limit(what, [seconds / len(targets) for seconds in each], None)
 
 
 def read_by_sqlite(conn, number):

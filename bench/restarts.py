@@ -86,7 +86,7 @@ def gap(made, words, folder):
                 time.sleep(0.002)
     title(f"a server of {len(made):,} objects has used up its connections, and is started again")
     limit("time without answers, with RestartSec=1s", gaps, None)
-    limit("the start and the opening of the file, in that", [it - RESTART for it in gaps], None)
+    limit("the start and the opening of the file, in that", [pause - RESTART for pause in gaps], None)
 
 
 @contextlib.contextmanager

@@ -61,7 +61,7 @@ def read_tested(path):
 def opening(run, folder, objects, size, references, most_times=None, most=None, tested_times=None):
     path = filled(run, f"{tempfile.mkdtemp(dir=folder)}/store.db", objects, size, references)
     other = foreign(run, path)
-    listed = lambda it: run(it, "list")[0]
+    listed = lambda file: run(file, "list")[0]
     each = [(read_all(path), timed(read, path), read_tested(path), listed(path), listed(other)) for _ in range(ROUNDS)]
     theirs, kept, tested, ours, alone = map(list, zip(*each))
     title(f"`list` on {objects:,} objects of {size:,} bytes with {references} references each")

@@ -42,6 +42,7 @@ DAY = "a day of 12 users over 100,000 objects.*"
 KINDS = {"record": "a record", "archive": "an archive", "import": "an import", "add": "a text that is added",
          "root": "a root or a profile", "question": "`why`"}
 OF_DAY = {"requests of users": "requests of users", "collection: slowest": "the slowest collection",
+          "a backup through the server, with four users who read": "a backup through the server",
           "longest pause of users who read meanwhile": "the longest wait of users at the restart",
           "memory of the server and the cache": "memory of the server and `nixkeep-cache`"}
 WAYS = {"command": "by a command", "server": "by curl over a server",
@@ -50,10 +51,10 @@ WAYS = {"command": "by a command", "server": "by curl over a server",
 
 def figure_in(measured: dict, bench: str, section: str, what: str, peer: str | None = None) -> dict | None:
     """The figure of a benchmark, or None."""
-    for it in measured.get(bench, {"figures": []})["figures"]:
-        if "skipped" not in it and it["what"] == what and re.fullmatch(section, it["section"]) \
-                and (peer is None or it.get("peer") == peer):
-            return it
+    for figure in measured.get(bench, {"figures": []})["figures"]:
+        if "skipped" not in figure and figure["what"] == what and re.fullmatch(section, figure["section"]) \
+                and (peer is None or figure.get("peer") == peer):
+            return figure
     return None
 
 
@@ -64,5 +65,5 @@ def action(measured, way, what, size):
 
 def seconds(measured: dict, way: str, what: str, size: int) -> float | None:
     """The seconds of an action, or None."""
-    it = action(measured, way, what, size)
-    return it and (it["theirs"] if way == "Nix" else it["value"])
+    figure = action(measured, way, what, size)
+    return figure and (figure["theirs"] if way == "Nix" else figure["value"])

@@ -10,7 +10,8 @@ RATES = ("a second", "GB/s")
 
 def by_place(figures):
     """The figures that can be compared, by their section and what they are of."""
-    return {(it["section"], it["what"], it["unit"]): it for it in figures if "value" in it and it["unit"] != "power"}
+    return {(figure["section"], figure["what"], figure["unit"]): figure for figure in figures
+            if "value" in figure and figure["unit"] != "power"}
 
 
 def worse(new, old):
@@ -31,18 +32,18 @@ def pairs(made, kept):
     """Each new figure with the last one of its place: the benchmark, the new one, and how much worse it is."""
     for name, of in made.items():
         last = by_place(kept.get(name, {}).get("figures", []))
-        for place, it in by_place(of["figures"]).items():
+        for place, figure in by_place(of["figures"]).items():
             if place in last:
-                yield name, it, worse(it, last[place])
+                yield name, figure, worse(figure, last[place])
 
 
 def warnings(made: dict, kept: dict) -> Iterator[str]:
     """A line for each figure that is more than 20 % worse than the last one. Times without a peer's are compared with
     the median of all, which says how much faster or slower this machine is."""
     compared = [*pairs(made, kept)]
-    pace = statistics.median([times for _, it, times in compared if is_of_machine(it)] or [1])
-    for name, it, times in compared:
-        times /= pace if is_of_machine(it) else 1
+    pace = statistics.median([times for _, figure, times in compared if is_of_machine(figure)] or [1])
+    for name, figure, times in compared:
+        times /= pace if is_of_machine(figure) else 1
         if times > MOST:
             date = kept[name]["facts"]["Date"]
-            yield f"bench/{name}, {it['section']}: {it['what']}: {times:.2f} times worse than on {date}"
+            yield f"bench/{name}, {figure['section']}: {figure['what']}: {times:.2f} times worse than on {date}"

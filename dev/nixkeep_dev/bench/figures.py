@@ -45,14 +45,14 @@ def spread(rounds):
     return max(rounds) / min(rounds) - 1 if len(rounds) > 1 and min(rounds) else None
 
 
-def line_of(it):
+def line_of(figure):
     """A figure that is kept, next to its peer's and its limit, as it is printed."""
-    if "skipped" in it:
-        return f"skipped: {it['skipped']}"
-    ratio, unit = it.get("ratio"), it["unit"]
-    peer = "" if ratio is None else f", {it['peer']} {shown(it['theirs'], unit)}: {ratio:.2f} times"
-    verdict = f"limit: {it['limit']}; {'ok' if it['is_met'] else 'MISSED'}" if it["limit"] else "no limit"
-    return f"{it['what']}: {shown(it['value'], unit)}{peer} ({verdict})"
+    if "skipped" in figure:
+        return f"skipped: {figure['skipped']}"
+    ratio, unit = figure.get("ratio"), figure["unit"]
+    peer = "" if ratio is None else f", {figure['peer']} {shown(figure['theirs'], unit)}: {ratio:.2f} times"
+    verdict = f"limit: {figure['limit']}; {'ok' if figure['is_met'] else 'MISSED'}" if figure["limit"] else "no limit"
+    return f"{figure['what']}: {shown(figure['value'], unit)}{peer} ({verdict})"
 
 
 def put(what: str, value: float, unit: str, limit: float | None, more: dict, is_least: bool = False) -> None:
@@ -153,7 +153,7 @@ def commands(each: dict[str, list], count: int, given: str | None = None) -> dic
     for _ in range(count):
         for name, words in each.items():
             runs[name].append(command(words, given))
-    return {name: ([it[0] for it in ran], max(it[1] for it in ran) / 1024) for name, ran in runs.items()}
+    return {name: ([run[0] for run in ran], max(run[1] for run in ran) / 1024) for name, ran in runs.items()}
 
 
 def memory_of(words: list) -> float:

@@ -1,4 +1,4 @@
-"""Requests by wrk on a processor of its own, so that the client isn't what is measured."""
+"""Requests by wrk on processors of its own, so that the client isn't what is measured."""
 import os
 import re
 import subprocess
@@ -7,20 +7,24 @@ import sys
 # A server, its proxy and wrk each have a processor where there are three.
 PROCESSORS = sorted(os.sched_getaffinity(0))
 SERVER, PROXY, CLIENT = (PROCESSORS[-at % len(PROCESSORS)] for at in (3, 2, 1))
+# wrk by a script has a half of them, and what it asks the other.
+HALF = len(PROCESSORS) // 2
+SERVERS, CLIENTS = PROCESSORS[:HALF] or PROCESSORS, PROCESSORS[HALF:]
 SECONDS = {"us": 1e-6, "ms": 1e-3, "s": 1, "m": 60, "h": 3600}
 
 
-def on(processor: int, *words: str) -> list[str]:
-    """A command that runs on one processor."""
-    return ["taskset", "-c", str(processor), *words]
+def on(processor: int | list[int], *words: str) -> list[str]:
+    """A command that runs on one processor, or on some."""
+    some = processor if isinstance(processor, list) else [processor]
+    return ["taskset", "-c", ",".join(map(str, some)), *words]
 
 
 class Load:
     """A run of wrk: requests a second, percentiles of the time of a reply in seconds, and replies that weren't 200
-    or didn't come. A script says itself what it asks, in two threads on any processors."""
+    or didn't come. A script says itself what it asks, in two threads."""
 
     def __init__(self, port: int, target: str = "", clients: int = 1, seconds: float = 3, script: str | None = None):
-        words = ["wrk", "-t2", "--timeout", "30s", "-s", script] if script else on(CLIENT, "wrk", "-t1")
+        words = on(CLIENTS, "wrk", "-t2", "--timeout", "30s", "-s", script) if script else on(CLIENT, "wrk", "-t1")
         words += [f"-c{clients}", f"-d{seconds}s", "--latency"]
         words += [] if script else ["--timeout", "10s", "-H", "store-user: root"]
         ran = subprocess.run([*words, f"http://127.0.0.1:{port}{target}"], capture_output=True, text=True)

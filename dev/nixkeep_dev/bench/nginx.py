@@ -5,7 +5,7 @@ import tempfile
 from pathlib import Path
 
 import parts
-from nixkeep_dev.bench.load import on
+from nixkeep_dev.bench.load import SERVERS, on
 from nixkeep_dev.bench.serving import Serving
 from nixkeep_dev.testing import packages
 from nixkeep_dev.testing.http_messages import free_port
@@ -46,7 +46,7 @@ def of_team(folder: str, places: list[str], kept: str | None = None, files: str 
     these places. There is no TLS and no password, and its limits are high, since all clients have one address. What it
     keeps is good for the time `kept`, or it keeps no archive and no record; or it has these in the folder `files`."""
     port, room = free_port(), tempfile.mkdtemp(dir=folder)
-    named = {"server unix:/run/nixkeep/red.socket;": " ".join(f"server unix:{it};" for it in places),
+    named = {"server unix:/run/nixkeep/red.socket;": " ".join(f"server unix:{place};" for place in places),
              "/var/log/nginx": f"{room}/log", "/var/lib/nginx": f"{room}/nginx",
              "default       nixkeep;": "default off;"}
 
@@ -61,4 +61,4 @@ def of_team(folder: str, places: list[str], kept: str | None = None, files: str 
     how = "worker_processes 2; worker_rlimit_nofile 4096; events { worker_connections 1024; }"
     os.chmod(folder, 0o755)
     file = parts.nginx_conf(room, "nginx.conf", named, port, how, changed)
-    return Serving(port, packages.place_of("nginx"), "-p", room, "-e", "errors", "-c", file)
+    return Serving(port, *on(SERVERS, packages.place_of("nginx"), "-p", room, "-e", "errors", "-c", file))

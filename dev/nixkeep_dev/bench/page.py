@@ -34,8 +34,8 @@ server: 1 is in proportion, 2 is quadratic. No power of any benchmark may be abo
 """
 DAY = """## A team's day
 
-`bench/day` runs an hour of 12 users over 100,000 objects of 1.4 GiB in minutes, with a collection after each sixth, a
-backup and a restart. Each reply is compared with the model's.
+`bench/day.py` runs an hour of 12 users over 100,000 objects of 1.4 GiB in minutes, with a collection after each
+sixth, a backup and a restart. Each reply is compared with the model's.
 """
 
 
@@ -43,12 +43,12 @@ def cell(value, unit):
     return "" if value is None else shown(value, unit)
 
 
-def value_of(it):
-    return shown(it["value"], it["unit"])
+def value_of(figure):
+    return shown(figure["value"], figure["unit"])
 
 
-def peer_of(it):
-    return f"{it['peer']}: {shown(it['theirs'], it['unit'])}" if it.get("ratio") is not None else ""
+def peer_of(figure):
+    return f"{figure['peer']}: {shown(figure['theirs'], figure['unit'])}" if figure.get("ratio") is not None else ""
 
 
 VERDICT = {None: "", True: "met", False: "**missed**"}
@@ -57,12 +57,12 @@ VERDICT = {None: "", True: "met", False: "**missed**"}
 # ---- all figures of a benchmark
 
 
-def row(it):
+def row(figure):
     """A line of the table for a figure."""
-    ratio = it.get("ratio")
-    spread = "" if it.get("spread") is None else f"{100 * it['spread']:.0f} %"
-    cells = [it["what"], shown(it["value"], it["unit"]), peer_of(it), "" if ratio is None else f"{ratio:.2f}",
-             it["limit"] or "", VERDICT[it["is_met"]], spread]
+    ratio = figure.get("ratio")
+    spread = "" if figure.get("spread") is None else f"{100 * figure['spread']:.0f} %"
+    cells = [figure["what"], shown(figure["value"], figure["unit"]), peer_of(figure),
+             "" if ratio is None else f"{ratio:.2f}", figure["limit"] or "", VERDICT[figure["is_met"]], spread]
     return f"| {' | '.join(cells)} |"
 
 
@@ -78,7 +78,7 @@ def lines_of(name: str, measured: dict) -> Iterator[str]:
         return
     yield from (f"- {word}: {text}" for word, text in measured[name]["facts"].items())
     yield f"\n{HEADING}"
-    of_section = lambda it: f"*skipped: {it['skipped']}*" if "skipped" in it else f"*{it['section']}*"
+    of_section = lambda figure: f"*skipped: {figure['skipped']}*" if "skipped" in figure else f"*{figure['section']}*"
     for section, figures in itertools.groupby(measured[name]["figures"], of_section):
         yield heading(section)
         yield from (row(figure) for figure in figures if "skipped" not in figure)
@@ -89,7 +89,7 @@ def lines_of(name: str, measured: dict) -> Iterator[str]:
 
 def facts(measured):
     """What the figures depend on: the newest run, the newest version of each peer, and what other runs measured."""
-    runs = sorted((value["facts"] for value in measured.values()), key=lambda it: it["Date"])
+    runs = sorted((value["facts"] for value in measured.values()), key=lambda entry: entry["Date"])
     now = runs[-1] if runs else {}
     versions = {word: text for run in runs for word, text in run.items() if text != "not installed"}
     peers = [word for word in now if word not in ("Machine", "Date", "Commit")]
@@ -97,8 +97,8 @@ def facts(measured):
     yield from (f"- {word}: {now[word]}" for word in ("Machine", "Date", "Commit") if word in now)
     yield f"- Compared with: {versions}"
     earlier = collections.defaultdict(list)
-    for name, it in measured.items():
-        if (run := (it["facts"]["Date"], it["facts"]["Commit"])) != (now["Date"], now["Commit"]):
+    for name, bench in measured.items():
+        if (run := (bench["facts"]["Date"], bench["facts"]["Commit"])) != (now["Date"], now["Commit"]):
             earlier[run].append(name)
     for (date, commit), names in earlier.items():
         yield f"- Measured earlier, at commit {commit} on {date}: {', '.join(sorted(names))}"
@@ -106,17 +106,17 @@ def facts(measured):
 
 def version(word, text):
     """A tool with the number of its version alone."""
-    number = next((it for it in text.replace("-", " ").replace("/", " ").split() if it[:1].isdigit()), text)
+    number = next((part for part in text.replace("-", " ").replace("/", " ").split() if part[:1].isdigit()), text)
     return f"{word} {number}"
 
 
 def figures(measured):
     """The table of the figures that users ask for."""
     yield "| What | nixkeep | Compared with | Limit | Is it met? |\n|---|---|---|---|---|"
-    for it in chosen.FIGURES:
-        figure = chosen.figure_in(measured, *it[1:])
+    for entry in chosen.FIGURES:
+        figure = chosen.figure_in(measured, *entry[1:])
         if figure:
-            cells = [it.label, shown(figure["value"], figure["unit"]), peer_of(figure), figure["limit"] or "",
+            cells = [entry.label, shown(figure["value"], figure["unit"]), peer_of(figure), figure["limit"] or "",
                      VERDICT[figure["is_met"]]]
             yield f"| {' | '.join(cells)} |"
 
@@ -140,16 +140,16 @@ def growth(measured):
 
 def day(measured):
     """The table of a team's day, where it was measured."""
-    figures = {it["what"]: it for it in measured.get("day", {"figures": []})["figures"]
-               if "skipped" not in it and re.fullmatch(chosen.DAY, it["section"])}
+    figures = {figure["what"]: figure for figure in measured.get("day", {"figures": []})["figures"]
+               if "skipped" not in figure and re.fullmatch(chosen.DAY, figure["section"])}
     if not figures:
         return
     yield DAY
     yield "| What | half within | 99 of 100 within |\n|---|---|---|"
-    for what, it in figures.items():
+    for what, figure in figures.items():
         kind, colon, _ = what.partition(": half of ")
         if colon and kind in chosen.KINDS:
-            yield f"| {chosen.KINDS[kind]} | {value_of(it)} | {value_of(figures[f'{kind}: 99 of 100 within'])} |"
+            yield f"| {chosen.KINDS[kind]} | {value_of(figure)} | {value_of(figures[f'{kind}: 99 of 100 within'])} |"
     yield "\n| What | nixkeep |\n|---|---|"
     yield from (f"| {label} | {value_of(figures[what])} |" for what, label in chosen.OF_DAY.items())
     yield ""
@@ -158,8 +158,8 @@ def day(measured):
 def page(measured: dict, names: list) -> str:
     """The page of the benchmarks of these names."""
     said = "\n".join(remarks.lines({name: measured[name] for name in names if name in measured}))
-    counted = collections.Counter(it["is_met"] for name in names if name in measured for it in measured[name]["figures"]
-                                  if it.get("is_met") is not None)
+    counted = collections.Counter(figure["is_met"] for name in names if name in measured
+                                  for figure in measured[name]["figures"] if figure.get("is_met") is not None)
     return "\n".join([INTRODUCTION, *facts(measured), "\n## What users ask for\n", *figures(measured), GROWTH,
                       *growth(measured), BOUND, *day(measured), "## Limits that are missed\n",
                       f"Of {sum(counted.values())} limits {counted[False]} are missed, for these reasons:\n",

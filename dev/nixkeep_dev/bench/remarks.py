@@ -41,6 +41,9 @@ REMARKS = [
     Remark(r"readers: .*: .*, all in nginx's cache: requests", "records and archives from nginx's cache",
            """nginx asks its cache as well whether the reader may connect, and reads the head of a reply that it keeps.
            A file has neither."""),
+    Remark(r"readers: .*: .*, all in nginx's cache: 99th percentile", "one reply in a hundred from nginx's cache",
+           """Half of them take a millisecond, and nginx and the clients take all processors, so whatever else runs
+           meanwhile is seen. It is so with nginx's own files, too."""),
     Remark(r"(readers|over_http): (?!.* in nginx's cache).*: 99th percentile",
            "one request in a hundred, next to half of them",
            """The server serves one connection after another, in the order in which they come."""),
@@ -60,18 +63,19 @@ REMARKS = [
 ]
 
 
-def name_of(bench, it):
-    return f"{bench}: {it['section']}: {it['what']}"
+def name_of(bench, figure):
+    return f"{bench}: {figure['section']}: {figure['what']}"
 
 
 def remark_of(name):
     """The remark on a figure; None where there is none."""
-    return next((it for it in REMARKS if re.fullmatch(it.pattern, name)), None)
+    return next((remark for remark in REMARKS if re.fullmatch(remark.pattern, name)), None)
 
 
 def missed(measured):
     """The names of the figures that miss their limit."""
-    return [name_of(bench, it) for bench, of in measured.items() for it in of["figures"] if it.get("is_met") is False]
+    return [name_of(bench, figure) for bench, of in measured.items() for figure in of["figures"]
+            if figure.get("is_met") is False]
 
 
 def item(text):

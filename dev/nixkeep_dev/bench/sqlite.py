@@ -54,7 +54,7 @@ def filled(run: Callable, path: str, objects: int, size: int, references: int, r
             insert(conn, base(number), nar, hashlib.sha256(nar).digest())
             targets = {(number + near + 1) % objects for near in range(references)}
             refer(conn, base(number), [target for target in targets if is_ring or target > number])
-        named = [(f"root{at}", base(it)) for at, it in enumerate(roots)]
+        named = [(f"root{at}", base(root)) for at, root in enumerate(roots)]
         conn.executemany("INSERT INTO permanent VALUES (?1, ?2)", named)
         conn.execute("COMMIT")
         conn.execute("PRAGMA wal_checkpoint(TRUNCATE)")

@@ -30,7 +30,7 @@ def sizes(rng, count, total):
     """The sizes in bytes of files of this machine's /usr, drawn by chance: together at most 16 MiB above `total`."""
     files = (f"{at}/{name}" for at, _, names in os.walk("/usr") for name in sorted(names))
     each = [os.lstat(file).st_size for file in files if Path(file).is_file() and not Path(file).is_symlink()]
-    each, drawn, together = [it for it in each if it <= LIMIT - FRAME - 8], [], 0
+    each, drawn, together = [length for length in each if length <= LIMIT - FRAME - 8], [], 0
     while len(drawn) < count:
         size = rng.choice(each)
         if together + size <= total * (len(drawn) + 1) / count + LIMIT:
@@ -82,7 +82,7 @@ class Team:
 
     def kept(self, rng: random.Random) -> list[str]:
         """A closure that has had a root from the beginning."""
-        return self.closures[rng.choice([it for it in range(len(self.closures)) if it % 10 < KEPT])]
+        return self.closures[rng.choice([at for at in range(len(self.closures)) if at % 10 < KEPT])]
 
     def answer(self, user: str, method: str, target: str, body: bytes | None) -> tuple[int, bytes]:
         """The status and the text that the model answers, and the change that it makes."""
