@@ -58,7 +58,7 @@ def pytest_terminal_summary(terminalreporter):
 
 @pytest.hookimpl(tryfirst=True)
 def pytest_runtest_setup(item):
-    report.skip_without(*(tool for it in item.iter_markers("needs") for tool in it.args))
+    report.skip_without(*(tool for marker in item.iter_markers("needs") for tool in marker.args))
 
 
 # ---- what tests are given
@@ -172,7 +172,8 @@ def side_by_side(request) -> Iterator[Callable]:
         def begin(name, call):
             given = [item.callspec.params for item in request.session.items
                      if item.path == request.path and hasattr(item, "callspec")]
-            return {value: pool.submit(call, value) for value in dict.fromkeys(it[name] for it in given if name in it)}
+            return {value: pool.submit(call, value)
+                    for value in dict.fromkeys(params[name] for params in given if name in params)}
 
         yield begin
         pool.shutdown(cancel_futures=True)

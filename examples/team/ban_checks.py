@@ -28,11 +28,11 @@ fail2ban-client "$@" stop >/dev/null"""
 # Connects to a server from three addresses, the first two of a network that is blocked, and prints which are answered.
 CONNECTING = """import socket, subprocess
 with socket.create_server(("::1", 443), family=socket.AF_INET6):
-    for it in ("fd09:0:0:7::1", "fd09:0:0:7:1:2:3:4", "fd09:0:0:8::1"):
-        subprocess.run(["ip", "addr", "add", it + "/128", "dev", "lo", "nodad"], check=True)
+    for address in ("fd09:0:0:7::1", "fd09:0:0:7:1:2:3:4", "fd09:0:0:8::1"):
+        subprocess.run(["ip", "addr", "add", address + "/128", "dev", "lo", "nodad"], check=True)
         with socket.socket(socket.AF_INET6) as client:
-            client.bind((it, 0))
-            print("from", it, client.connect_ex(("::1", 443)) == 0)"""
+            client.bind((address, 0))
+            print("from", address, client.connect_ex(("::1", 443)) == 0)"""
 
 
 def counted(file: str, count: int) -> None:
@@ -54,22 +54,22 @@ def banned(site: Any, line: str) -> None:
         return parts.skip("fail2ban's bans: there is no fail2ban of Debian's, or no network namespace")
     os.makedirs(folder := f"{site.folder}/banned")
     shutil.copytree(DEBIANS, f"{folder}/conf")
-    for it in ("filter", "action"):
-        shutil.copy(f"{parts.HERE}/fail2ban/{it}.conf", f"{folder}/conf/{it}.d/nixkeep.conf")
+    for kind in ("filter", "action"):
+        shutil.copy(f"{parts.HERE}/fail2ban/{kind}.conf", f"{folder}/conf/{kind}.d/nixkeep.conf")
     jail = Path(f"{parts.HERE}/fail2ban/jail.conf").read_text()
     Path(f"{folder}/conf/jail.d/nixkeep.conf").write_text(jail.replace("/var/log/nginx", folder))
     Path(f"{folder}/conf/fail2ban.local").write_text("[Definition]\ndbfile = None\n")
     Path(f"{folder}/nixkeep.log").touch()
     line = re.sub(r'"time":"[^"]*"', '"time":"@now@"', line)
     came = [("10.9.8.7", 10), ("fd09:0:0:7::", 10), ("10.9.8.6", 9), ("fd09:0:0:8::", 9)]
-    text = "".join(re.sub(r'"network":"[^"]*"', f'"network":"{it}"', line) * count for it, count in came)
+    text = "".join(re.sub(r'"network":"[^"]*"', f'"network":"{network}"', line) * count for network, count in came)
     Path(f"{folder}/lines").write_text(text)
     ran = subprocess.run([*ALONE, "sh", "-c", LINES], cwd=folder, capture_output=True, text=True,
                          env={**os.environ, "CONNECTING": CONNECTING})
     log = Path(f"{folder}/said").read_text() if Path(f"{folder}/said").exists() else ""
     refused = re.findall(r"tcp dport 443 ip6? saddr (?:& ffff:ffff:ffff:ffff:: == )?@(\S+) reject", ran.stdout)
     check("two addresses that guess passwords get no connection", len(refused) == 2 and
-          all(it in ran.stdout for it, count in came if count == 10), ran.stdout + ran.stderr + log)
+          all(network in ran.stdout for network, count in came if count == 10), ran.stdout + ran.stderr + log)
     same("and no other address is blocked", re.findall(r"10\.9\.8\.6|fd09:0:0:8::[ ,]", ran.stdout), [])
     if not parts.skipped("connections from a network that is blocked", "ip"):
         same("by IPv6 it is a network that gets no connection", re.findall(r"^from (\S+) (\S+)$", ran.stdout, re.M),

@@ -38,19 +38,19 @@ def tls(site: Any) -> None:
     place, folder = f"127.0.0.1:{site.port}", f"{site.etc}/tls"
     request = b"GET /nix-cache-info HTTP/1.1\r\nhost: red.localhost\r\nconnection: close\r\n\r\n"
 
-    def asked(version, *more):
+    def reply(version, *more):
         words = ["openssl", "s_client", "-connect", place, "-servername", "red.localhost", f"-{version}", "-ign_eof"]
         return subprocess.run([*words, *more], input=request, capture_output=True, timeout=300).stdout
 
     certified = ["-cert", f"{folder}/carol.pem", "-key", f"{folder}/carol.key"]
     for version in ("tls1_2", "tls1_3"):
         kept = f"{site.folder}/{version}"
-        same(f"{version} with a certificate", b"HTTP/1.1 200" in asked(version, *certified, "-sess_out", kept), True)
-        resumed = Path(kept).exists() and asked(version, "-sess_in", kept)
+        same(f"{version} with a certificate", b"HTTP/1.1 200" in reply(version, *certified, "-sess_out", kept), True)
+        resumed = Path(kept).exists() and reply(version, "-sess_in", kept)
         is_new = not resumed or b"HTTP/1.1 401" in resumed and b"Reused" not in resumed
         check("its session isn't resumed", is_new, resumed)
     for version in ("tls1", "tls1_1"):
-        same(f"{version} is refused", b"HTTP/1.1" in asked(version, "-cipher", "ALL:@SECLEVEL=0"), False)
+        same(f"{version} is refused", b"HTTP/1.1" in reply(version, "-cipher", "ALL:@SECLEVEL=0"), False)
 
 
 def watched(site: Any) -> None:
@@ -70,15 +70,16 @@ def watched(site: Any) -> None:
         check(what, 400 <= status < 500, status)
     same("figures", monitor("GET", "/metrics")[0], 200)
     others = ("GET", "/paths"), ("POST", "/collect"), ("GET", "/overview/day")
-    same("and nothing else", [monitor(*it)[0] for it in others], [403] * 3)
+    same("and nothing else", [monitor(*request)[0] for request in others], [403] * 3)
     same("not for strangers, nor without a login",
-         [it("GET", "/metrics")[0] for it in (site.user("eve"), nobody, ann)], [403, 401, 200])
+         [user("GET", "/metrics")[0] for user in (site.user("eve"), nobody, ann)], [403, 401, 200])
     words = [*ann.words, "-o", "/dev/null", "-D", "-", f"{ann.url}/nix-cache-info"]
     head = parts.curl(*words)[1]
     check("a browser takes nothing for a page that isn't one", b"x-content-type-options: nosniff" in head, head)
     path = ann.add("recorded", b"x")
     # (a record is written after its reply, so those of earlier requests may come first)
-    named = lambda: [(it["user"], it["paths"]) for it in site.servers["red"].records() if path[11:] in it["paths"]]
+    named = lambda: [(record["user"], record["paths"]) for record in site.servers["red"].records()
+                     if path[11:] in record["paths"]]
     parts.until("a record", named)
     same("a change has its user, by the certificate or the password", named(), [("ann", [path[11:]])])
     lines = b"".join(b"path: %s\n" % (b"\xff" * 290) for _ in range(100)) + b"path: %s\n" % path.encode() * 2
@@ -96,9 +97,9 @@ def slowly(held: list[ssl.SSLSocket]) -> Iterator[None]:
 
     def send():
         while not stop.wait(5):
-            for it in held:
+            for client in held:
                 with contextlib.suppress(OSError):
-                    it.send(b"p")
+                    client.send(b"p")
 
     with ThreadPoolExecutor(1) as pool:
         pool.submit(send)
@@ -113,20 +114,20 @@ def slow_imports(site: Any) -> None:
     ann, login = site.user("ann"), base64.b64encode(b"bob:bob-secret").decode()
     head = f"POST /import HTTP/1.1\r\nhost: red.localhost\r\nauthorization: Basic {login}\r\n"
     held = [connected(site) for _ in range(20)]
-    for it in held:
-        it.sendall(f"{head}content-length: 20971520\r\n\r\np".encode())
+    for client in held:
+        client.sendall(f"{head}content-length: 20971520\r\n\r\np".encode())
     with slowly(held):
         path = ann.add("meanwhile", bytes(100_000))
-        found = [ann("GET", it)[0] for it in ("/paths", f"/nar/{path[11:]}", "/roots")]
-    same("while the imports of another user don't come, all is answered", found, [200] * 3)
+        statuses = [ann("GET", target)[0] for target in ("/paths", f"/nar/{path[11:]}", "/roots")]
+    same("while the imports of another user don't come, all is answered", statuses, [200] * 3)
     waiting = 0
-    for it in held:
-        it.setblocking(False)
+    for client in held:
+        client.setblocking(False)
         try:
-            it.recv(1)
+            client.recv(1)
         except ssl.SSLWantReadError:
             waiting += 1
-        it.close()
+        client.close()
     check("and most of these still wait", waiting >= 7, waiting)
 
 
@@ -138,22 +139,22 @@ def slow_uploads(site: Any) -> None:
     name, of_more = by_nix.digest(archive), by_nix.digest(more)
     head = f"PUT /nar/{name}.nar HTTP/1.1\r\nhost: red.localhost\r\nauthorization: Basic {login}\r\n"
     held = [connected(site) for _ in range(8)]
-    for it in held:
-        it.sendall(f"{head}content-length: {len(archive)}\r\n\r\n".encode() + archive[:1000])
+    for client in held:
+        client.sendall(f"{head}content-length: {len(archive)}\r\n\r\n".encode() + archive[:1000])
     with ThreadPoolExecutor(1) as pool:
         ninth = pool.submit(lambda: build("PUT", f"/nar/{of_more}.nar", more)[0])
         # (nginx waits thirty seconds for the next byte)
         for at in range(1000, 1024):
             time.sleep(3)
-            for it in held:
-                it.sendall(archive[at : at + 1])
+            for client in held:
+                client.sendall(archive[at : at + 1])
         check("one more upload waits", not ninth.done())
-        for it in held:
-            it.sendall(archive[1024:])
+        for client in held:
+            client.sendall(archive[1024:])
         same("and is done once the others are", ninth.result(), 201)
-    same("these are done, too", {it.recv(12) for it in held}, {b"HTTP/1.1 201"})
-    for it in held:
-        it.close()
+    same("these are done, too", {client.recv(12) for client in held}, {b"HTTP/1.1 201"})
+    for client in held:
+        client.close()
 
 
 def subjects(site: Any) -> None:
@@ -170,14 +171,15 @@ def subjects(site: Any) -> None:
         same(f"the subject {subject} is nobody's", site.user("build", certificate="odd")("GET", "/paths")[0], 401)
     openssl("req -newkey rsa:2048 -nodes -subj /O=red/CN=build -keyout odd.key -out odd.csr")
     openssl("x509 -req -in odd.csr -CA carol.pem -CAkey carol.key -CAcreateserial -days 1 -out signed.pem")
-    chain = "".join(Path(f"{folder}/{it}.pem").read_text() for it in ("signed", "carol"))
+    chain = "".join(Path(f"{folder}/{name}.pem").read_text() for name in ("signed", "carol"))
     Path(f"{folder}/odd.pem").write_text(chain)
     same("what a user's certificate has signed is nobody's",
          site.user("build", certificate="odd")("GET", "/paths")[0], 400)
     carol = site.user("carol", certificate="carol")
-    asked = lambda host: carol("GET", "/paths", None, "-H", f"host: {host}")[0]
-    same("a name of another team within a connection", asked("green.localhost"), 421)
-    same("names of other domains", [asked(it) for it in ("red.evil", "red.localhost.evil", "xred.localhost")], [0] * 3)
+    status_of = lambda host: carol("GET", "/paths", None, "-H", f"host: {host}")[0]
+    same("a name of another team within a connection", status_of("green.localhost"), 421)
+    same("names of other domains",
+         [status_of(name) for name in ("red.evil", "red.localhost.evil", "xred.localhost")], [0] * 3)
 
 
 def half_asked(site: Any) -> None:
@@ -198,9 +200,9 @@ def half_asked(site: Any) -> None:
                 return error
 
     half, health = b"GET /paths HTTP/1.1\r\nhost: red", b"HEAD /health HTTP/1.1\r\nhost: red.localhost\r\n\r\n"
-    asked = (b"", False), (b"\x16\x03\x01\x02\x00\x01", False), (b"", True), (half, True), (half, True, health)
+    cases = (b"", False), (b"\x16\x03\x01\x02\x00\x01", False), (b"", True), (half, True), (half, True, health)
     with ThreadPoolExecutor(5) as pool:
-        same("half a request is waited for ten seconds", [*pool.map(lambda it: closed(*it), asked)], [b""] * 5)
+        same("half a request is waited for ten seconds", [*pool.map(lambda case: closed(*case), cases)], [b""] * 5)
 
 
 def forms_of_large(site: Any) -> None:
@@ -214,13 +216,14 @@ def forms_of_large(site: Any) -> None:
     form = lambda agent: re.search("^Compression: (.*)$", record(agent), re.M)[1]
     same("a name with a letter that is none of ASCII is that of old Nix to both", form("Nix/2.3\u00e9"), "none")
     agents = "Nix/2.18.1", "Nix/2.3.16", "Nix/2.30.0", "Nix/1.11", "curl/8"
-    same("old Nix gets it as it is, and others by zstd", [form(it) for it in agents * 2],
+    same("old Nix gets it as it is, and others by zstd", [form(agent) for agent in agents * 2],
          ["zstd", "none", "zstd", "none", "zstd"] * 2)
     target = "/" + re.search("^URL: (.*)$", record("Nix/2.3.16"), re.M)[1]
-    size = lambda field: (lambda it: (it[0], len(it[1])))(ann("GET", target, None, "-H", f"range: bytes={field}"))
-    same("a range", [size(it) for it in ("1-2", "-3", "17000000-")],
+    size = lambda field: (lambda reply: (reply[0], len(reply[1])))(
+        ann("GET", target, None, "-H", f"range: bytes={field}"))
+    same("a range", [size(field) for field in ("1-2", "-3", "17000000-")],
          [(206, 2), (206, 3), (206, len(archive) - 17_000_000)])
     odd = "9" * 5000 + "-", "0-" + "9" * 5000, "-" + "9" * 5000, "5-3", "0-1,3-4"
-    same("a range that is none has the whole", [size(it) for it in odd], [(200, len(archive))] * 5)
+    same("a range that is none has the whole", [size(field) for field in odd], [(200, len(archive))] * 5)
     lines = site.servers["red"].lines()
-    same("and none is a fault", [lines[at : at + 40] for at, it in enumerate(lines) if "Traceback" in it], [])
+    same("and none is a fault", [lines[at : at + 40] for at, line in enumerate(lines) if "Traceback" in line], [])

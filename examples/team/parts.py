@@ -8,6 +8,7 @@ import json
 import os
 import random
 import re
+import select
 import shutil
 import signal
 import socket
@@ -82,9 +83,10 @@ def skip(why: str) -> None:
 
 def skipped(what: str, *needed: str) -> bool:
     """Whether some of these aren't installed: then this is skipped. A module of Debian's Python is `python3-NAME`."""
-    lacking = [it for it in needed if not place_of(it)]
+    lacking = [tool for tool in needed if not place_of(tool)]
     if lacking:
-        skip(f"{what}: install the Debian packages: {' '.join(dict.fromkeys(PACKAGES.get(it, it) for it in lacking))}")
+        skip(f"{what}: install the Debian packages: "
+             f"{' '.join(dict.fromkeys(PACKAGES.get(tool, tool) for tool in lacking))}")
     return bool(lacking)
 
 
@@ -128,7 +130,8 @@ class Part:
     """A program that runs until the `with` statement ends; it is ready once somebody listens at its place."""
 
     def __init__(self, name: str, words: list, place: int | str, log: str):
-        self.name, self.words, self.place, self.log, self.running = name, [str(it) for it in words], place, log, None
+        self.name, self.words, self.place, self.log, self.running = (
+            name, [str(word) for word in words], place, log, None)
 
     def start(self) -> Self:
         with open(self.log, "ab") as log:
@@ -189,12 +192,12 @@ def nginx_conf(folder: str, name: str, places: dict[str, str], port: int, how: s
             text = text.replace(here, there)
         return change(re.sub(r"\blisten( +)443", rf"listen\g<1>127.0.0.1:{port}", text))
 
-    for it in ("nginx", "snippets", "log"):
-        os.makedirs(f"{folder}/{it}", exist_ok=True)
-    for it in ("nixkeep-http.conf", "nixkeep-server.conf"):
-        Path(f"{folder}/snippets/{it}").write_text(placed(it))
+    for entry in ("nginx", "snippets", "log"):
+        os.makedirs(f"{folder}/{entry}", exist_ok=True)
+    for entry in ("nixkeep-http.conf", "nixkeep-server.conf"):
+        Path(f"{folder}/snippets/{entry}").write_text(placed(entry))
     kinds = "client_body", "proxy", "fastcgi", "uwsgi", "scgi"
-    temporary = "".join(f"    {it}_temp_path {folder}/{it};\n" for it in kinds)
+    temporary = "".join(f"    {kind}_temp_path {folder}/{kind};\n" for kind in kinds)
     Path(file := f"{folder}/nginx.conf").write_text(
         f"daemon off;\npid nginx.pid;\n{'user root;' if os.geteuid() == 0 else ''}\n{how}\n"
         # (a log for all servers, as Debian's own file has it)
@@ -216,7 +219,7 @@ class Unit(Part):
         words = [f"{TOOLS}/nixkeep-cache", "--nixkeep", program, "--config", config, "--db", database]
         words += ["--waiting", f"{folder}/waiting", "--patience", "300", *(more or ["--proxied"])]
         super().__init__("nixkeep-cache", words, place, f"{folder}/cache.log")
-        self.listener, self.ready = socket.socket(socket.AF_UNIX), f"{folder}/ready"
+        self.listener, self.ready, self.children = socket.socket(socket.AF_UNIX), f"{folder}/ready", []
         self.listener.bind(place)
         self.listener.listen(4096)
 
@@ -233,9 +236,23 @@ class Unit(Part):
             said = manager.recv(100)
         if said != b"READY=1":
             sys.exit(f"{self.name} said {said}")
+        self.watch()
         return self
 
     __enter__ = start
+
+    def watch(self):
+        with contextlib.suppress(OSError, TypeError):
+            self.children.append(os.pidfd_open(self.server()))
+
+    def end(self, by: int = signal.SIGTERM) -> None:
+        """Waits for the end of the server, too, which systemd kills: until then another one can't open the file."""
+        if self.running:
+            self.watch()
+        super().end(by)
+        while self.children:
+            select.select([child := self.children.pop()], [], [], 60)
+            os.close(child)
 
     def server(self) -> int:
         """The process number of the server, which is the only child, or None while it starts."""
@@ -261,7 +278,7 @@ def some_path(rng: random.Random, name: str) -> str:
 
 def put_tables(conn: sqlite3.Connection, schema: int) -> None:
     """The tables of a schema, without any object."""
-    for table in [it for it in store_file.FORMS if it not in store_file.LACKS[schema]]:
+    for table in [name for name in store_file.FORMS if name not in store_file.LACKS[schema]]:
         columns, key = store_file.FORMS[table]
         written = [column[:-2] if column.endswith(" ?") else f"{column} NOT NULL" for column in columns]
         keys = ", ".join(column.split()[0] for column in columns[:key])

@@ -53,8 +53,8 @@ def kept_for_a_minute(site):
     same("after a minute the closure is gone for readers", ann("GET", record)[0], 404)
     same("the record is that of the new contents", ann("GET", ann.archive(other)), (200, new))
     same("and the old contents are gone", ann("GET", address)[0], 404)
-    for it in again.closure(6, 7, "kept"):
-        assert Path(again.root + it).exists()
+    for path in again.closure(6, 7, "kept"):
+        assert Path(again.root + path).exists()
     same("another machine uploads the closure again", copied(again, "--to", url), 0)
     check("and it is in the store", made in build.listed(), made)
 
@@ -85,7 +85,7 @@ def compressed(site):
     for _ in range(10):
         raw(), raw(*zstd)
         server.end()
-        kept = [dan("GET", target, None, *it, "--max-time", "60") for it in (zstd, ())]
+        kept = [dan("GET", target, None, *fields, "--max-time", "60") for fields in (zstd, ())]
         server.start()
         if kept == [(200, archive)] * 2:
             break
@@ -99,10 +99,10 @@ def large(site):
     made = host.outputs(host.texts(1, "large"), [10, 300_000, 22_000_000], random.Random(9))
     ran = host.run("nix", "copy", "--to", f"{build.url}?compression=none", made[-1])
     check("nix copy uploads archives of 0.3 and 22 MB", ran.returncode == 0, ran.stderr.decode())
-    same("which are blobs", [ann.archive(it).split("/")[1] for it in made], ["nar", "large", "large"])
+    same("which are blobs", [ann.archive(path).split("/")[1] for path in made], ["nar", "large", "large"])
     ran = desk.run("nix-store", "--realise", made[-1], "--option", "substituters", ann.url)
     check("a substituter has them, with signatures", ran.returncode == 0, ran.stderr.decode())
-    same("as they were", [desk.archive(it) == host.archive(it) for it in made], [True] * 3)
+    same("as they were", [desk.archive(path) == host.archive(path) for path in made], [True] * 3)
     name, part = ann.archive(made[-1]), ann("GET", ann.archive(made[-1]), None, "-H", "range: bytes=5-14")
     same("a range of one", (part[0], part[1] == ann("GET", name)[1][5:15]), (206, True))
     same("a stranger gets none", site.user("eve")("GET", name)[0], 403)
@@ -134,12 +134,12 @@ def other_sites(site):
     for fields in (["origin: https://evil.example"], ["origin: null"], [f"origin: https://green.localhost:{site.port}"],
                    ["sec-fetch-site: cross-site"], ["sec-fetch-site: same-site"],
                    [f"origin: {own}", "sec-fetch-site: same-site"], [f"origin: {own}.evil.example"]):
-        words = [it for field in fields for it in ("-H", field)]
+        words = [word for field in fields for word in ("-H", field)]
         same(f"{', '.join(fields)}: nothing is collected", ann("POST", "/collect", None, *words), OTHER_SITE)
         same("nor dropped", ann(*dropped, *words), OTHER_SITE)
     check("the object is still there", path in ann.listed(), path)
     for fields in ([f"origin: {own}", "sec-fetch-site: same-origin"], ["sec-fetch-site: none"]):
-        words = [it for field in fields for it in ("-H", field)]
+        words = [word for field in fields for word in ("-H", field)]
         same(f"{', '.join(fields)}: it is the store's own page", ann(*dropped, *words)[1], b"refused: 27 no-root\n")
     same("another page may load what it can't read",
          ann("GET", "/nix-cache-info", None, "-H", "origin: https://evil.example")[0], 200)
@@ -151,8 +151,8 @@ def dear(site):
     """Questions over all of a store pass 5 a second, after 20 at once, whatever else a client says of itself."""
     carol, began = site.user("carol", certificate="carol"), time.monotonic()
     with ThreadPoolExecutor(8) as pool:
-        found = [*pool.map(lambda at: carol("GET", "/report", None, "-u", f"name{at}:x")[0], range(60))]
-    same("a certificate is who asks, and not the name of a password besides", found, [200] * 60)
+        statuses = [*pool.map(lambda at: carol("GET", "/report", None, "-u", f"name{at}:x")[0], range(60))]
+    same("a certificate is who asks, and not the name of a password besides", statuses, [200] * 60)
     spent = time.monotonic() - began
     # (a little less, since nginx counts in thousandths)
     check("so 60 questions over all of a store take at least (60 - 21) / 5 seconds", spent > 7.7, spent)
@@ -221,8 +221,8 @@ def collected_meanwhile(site):
     first, second = parts.some_path(rng, "first"), parts.some_path(rng, "second")
     there = parts.some_path(rng, "there")
     same("an object is in the store", imported(build, there, by_nix.archive(b"there")), 200)
-    head = [parts.curl(*build.words, "-I", f"{build.url}/{it[11:43]}.narinfo", "-o", "/dev/null")[0]
-            for it in (there, first, second)]
+    head = [parts.curl(*build.words, "-I", f"{build.url}/{path[11:43]}.narinfo", "-o", "/dev/null")[0]
+            for path in (there, first, second)]
     same("a client asks for it, and for two that aren't there", head, [200, 404, 404])
     same("and uploads a first path", uploaded(build, first, b"first"), 200)
     freed = bob("POST", "/collect")
@@ -240,11 +240,11 @@ def uploaded(user, path, contents, *references):
     user("PUT", f"/nar/{digest}.nar", archive)
     lines = [("StorePath", path), ("URL", f"nar/{digest}.nar"), ("Compression", "none"), ("NarSize", len(archive)),
              ("NarHash", f"sha256:{digest}"), ("References", " ".join(references))]
-    return user("PUT", f"/{path[11:43]}.narinfo", "".join(f"{key}: {it}\n" for key, it in lines).encode())[0]
+    return user("PUT", f"/{path[11:43]}.narinfo", "".join(f"{key}: {value}\n" for key, value in lines).encode())[0]
 
 
 def all_of(site: Any) -> None:
-    for it in (other_sites, entry_checks.tls, entry_checks.watched, entry_checks.subjects, entry_checks.half_asked,
-               entry_checks.slow_imports, dear, logged, compressed, large, entry_checks.forms_of_large,
-               entry_checks.slow_uploads, restarted, collected_meanwhile, kept_for_a_minute):
-        it(site)
+    for test in (other_sites, entry_checks.tls, entry_checks.watched, entry_checks.subjects, entry_checks.half_asked,
+                 entry_checks.slow_imports, dear, logged, compressed, large, entry_checks.forms_of_large,
+                 entry_checks.slow_uploads, restarted, collected_meanwhile, kept_for_a_minute):
+        test(site)

@@ -69,11 +69,11 @@ class Curl:
         """Asks in one run of curl; gives the reply to each, and what curl says of its doing."""
         config, files = [], []
         for at, (user, method, target, body) in enumerate(made):
-            head, text, sent = (Path(f"{self.folder}/{at}.{it}") for it in ("head", "text", "sent"))
+            head, text, sent = (Path(f"{self.folder}/{at}.{suffix}") for suffix in ("head", "text", "sent"))
             files.append((head, text))
             # (curl makes no file where nothing comes)
-            for it, data in ((head, b""), (text, b""), (sent, body)):
-                it.write_bytes(data)
+            for file, data in ((head, b""), (text, b""), (sent, body)):
+                file.write_bytes(data)
             config += [*["next"] * (at > 0), f'url = "http://127.0.0.1:{port}{target}"', f'request = "{method}"']
             config += [f'header = "store-user: {user}"', f'output = "{output or text}"', f'dump-header = "{head}"']
             config += [ALWAYS, *more, *[f'data-binary = "@{sent}"'] * bool(body)]
@@ -103,13 +103,13 @@ def answers(what, reply, text, status=200, **head):
 
 def test_each_route_is_asked():
     """The table has the routes that are defined, and each is asked by each of its methods."""
-    fixed = [it for name in glob.glob(f"{HERE}/crates/*/specs/Table.antt")
-             for it in re.findall(r'codes "(/[^"]+)"', Path(name).read_text())]
+    fixed = [route for name in glob.glob(f"{HERE}/crates/*/specs/Table.antt")
+             for route in re.findall(r'codes "(/[^"]+)"', Path(name).read_text())]
     same("the routes of the reference, next to those that are defined", sorted(routes()), sorted(fixed))
     made = [*requests()]
     for pattern, methods in routes().items():
         for method in methods:
-            is_asked = any(it.method == method and fits(pattern, it.target) for it in made)
+            is_asked = any(request.method == method and fits(pattern, request.target) for request in made)
             report.right(f"{method} {pattern}", None if is_asked else "it isn't asked here")
 
 
@@ -117,13 +117,14 @@ def test_routes(program, folder, curl):
     """Each request over one connection, over one of its own, and by a command."""
     made = [*requests()]
     Path(config := f"{folder}/store.toml").write_text(CONFIG)
-    options, stores = ["--config", config], [Store(program, f"{folder}/{it}.db") for it in ("commands", "one", "each")]
+    options, stores = ["--config", config], [Store(program, f"{folder}/{name}.db")
+                                             for name in ("commands", "one", "each")]
     over_one, over_each = ask_twice(program, options, folder, curl,
-                                    [(it.user, it.method, it.target, it.body) for it in made])
+                                    [(request.user, request.method, request.target, request.body) for request in made])
     options += ["--group", "users"]
-    for it, one, each in zip(made, over_one, over_each):
-        ran = stores[0].run(*it.words, given=it.given, user=it.user, options=options)
-        try_route(it, one, each, *ran)
+    for request, one, each in zip(made, over_one, over_each):
+        ran = stores[0].run(*request.words, given=request.given, user=request.user, options=options)
+        try_route(request, one, each, *ran)
     for word in ("list", "roots", "live", "dead", "report"):
         printed = [store.run(word, options=options) for store in stores]
         same(f"{word} over one connection", printed[1], printed[0])
@@ -134,23 +135,23 @@ def ask_twice(file, options, folder, curl, made):
     """The replies over one connection, and over a connection for each."""
     with serving("one connection", file, [*options, "--db", f"{folder}/one.db"], 1) as port:
         over_one, _ = curl(port, made)
-    same("one connection: those that were made", [it.connects for it in over_one], [1] + [0] * (len(made) - 1))
+    same("one connection: those that were made", [reply.connects for reply in over_one], [1] + [0] * (len(made) - 1))
     with serving("a connection for each", file, [*options, "--db", f"{folder}/each.db"], len(made)) as port:
-        over_each = [curl(port, [it], 'header = "connection: close"')[0][0] for it in made]
+        over_each = [curl(port, [request], 'header = "connection: close"')[0][0] for request in made]
     return over_one, over_each
 
 
-def try_route(it, one, each, printed, said, code):
+def try_route(request, one, each, printed, said, code):
     """Compares replies with a command's outputs."""
     other, answer = (printed, said.encode()) if code else (said.encode(), printed)
-    same(f"{it.name()}: the other output of the command", other, b"")
-    if it.wanted is not None:
-        same(f"{it.name()}: the command", answer, it.wanted)
+    same(f"{request.name()}: the other output of the command", other, b"")
+    if request.wanted is not None:
+        same(f"{request.name()}: the command", answer, request.wanted)
     status = status_of(code, answer)
-    media = "application/octet-stream" if code == 0 and it.target.startswith("/nar/") else "text/plain"
+    media = "application/octet-stream" if code == 0 and request.target.startswith("/nar/") else "text/plain"
     for where, reply, closes in (("", one, False), (" over a connection of its own", each, True)):
-        same(f"{it.name()}: the text{where}", reply.text, answer)
-        same(f"{it.name()}: the head{where}", reply.head, head_of(status, len(answer), media, closes=closes))
+        same(f"{request.name()}: the text{where}", reply.text, answer)
+        same(f"{request.name()}: the head{where}", reply.head, head_of(status, len(answer), media, closes=closes))
 
 
 def test_methods(program, curl):
@@ -204,23 +205,24 @@ def some_bodies():
         once = [(key, values[key]) for key, words in keys.items() if words == "once"]
         each = [(key, values[key]) for key in keys]
         good += [(target, body(once)), (target, body(each)), (target, body(reversed(each)))]
-        good += [(target, body(each + [it])) for it in each if keys[it[0]] == "any number of times"]
-        bad += [(target, body([it for it in each if it != left])) for left in once]
-        bad += [(target, body(each + [it])) for it in each if keys[it[0]] != "any number of times"]
+        good += [(target, body(each + [pair])) for pair in each if keys[pair[0]] == "any number of times"]
+        bad += [(target, body([pair for pair in each if pair != left])) for left in once]
+        bad += [(target, body(each + [pair])) for pair in each if keys[pair[0]] != "any number of times"]
         bad += [(target, body(each + [(key, "7")])) for key in [*values, "", "other"] if key not in keys]
-        bad += [(target, body([(key.upper(), value)] + [it for it in each if it[0] != key])) for key, value in each]
+        bad += [(target, body([(key.upper(), value)] + [pair for pair in each if pair[0] != key]))
+                for key, value in each]
         whole = body(each, b"")
-        bad += [(target, it) for it in (whole.replace(b": ", b":", 1), whole[:-1], b"\xff: 7\n" + body(each))]
+        bad += [(target, data) for data in (whole.replace(b": ", b":", 1), whole[:-1], b"\xff: 7\n" + body(each))]
         if not has_payload:
             bad.append((target, body(each, b"\n")))
-    bad += [("/rollback/7/7", it) for it in (b"7", b"path: " + p.encode() + b"\n\n", b"\n\n")]
+    bad += [("/rollback/7/7", data) for data in (b"7", b"path: " + p.encode() + b"\n\n", b"\n\n")]
     return good, bad
 
 
 def test_bodies(program, curl):
     good, bad = some_bodies()
     with serving("bodies", program, [], 1) as port:
-        replies, _ = curl(port, [("root", "POST", *it) for it in good + bad])
+        replies, _ = curl(port, [("root", "POST", *pair) for pair in good + bad])
     line = b"refused: 41 bad-body-head\n"
     for (target, body), reply in zip(good + bad, replies):
         same(f"whether {target} is refused for its body {body[:300]!r}", reply.text == line, (target, body) in bad)
@@ -233,10 +235,10 @@ def test_connections(program, curl):
         kept, said = curl(port, paths)
         closed, _ = curl(port, paths, 'header = "connection: close"')
         old, _ = curl(port, paths, "http1.0")
-    same("a connection that is kept", [it.connects for it in kept], [1, 0, 0])
+    same("a connection that is kept", [reply.connects for reply in kept], [1, 0, 0])
     same("a connection that curl says to use again", len(re.findall(r"^\* Re-?using existing ", said, re.M | re.I)), 2)
-    same("connections that close", [it.connects for it in closed], [1, 1, 1])
-    same("connections of HTTP/1.0", [it.connects for it in old], [1, 1, 1])
+    same("connections that close", [reply.connects for reply in closed], [1, 1, 1])
+    same("connections of HTTP/1.0", [reply.connects for reply in old], [1, 1, 1])
     for replies, closes in ((kept, False), (closed, True), (old, True)):
         for reply in replies:
             answers("GET /paths", reply, b"", closes=closes)
@@ -256,7 +258,7 @@ class Large:
         self.imported = imported(self.p, self.other)
         self.over = "ann", "POST", "/text", bytes(MOST_OF_BODY + 1)
         self.long = "ann", "POST", "/source", text("long", archive(bytes(MOST - 104)))
-        self.gets = [("ann", "GET", f"/nar/{it}", b"") for it in (self.path, self.p)]
+        self.gets = [("ann", "GET", f"/nar/{base}", b"") for base in (self.path, self.p)]
 
 
 def line_of(path):
@@ -300,7 +302,7 @@ def try_large_out(large, curl, port):
 
 def test_no_room(program, folder, curl):
     """A store whose file may not grow: what has failed has status 503, and the connection goes on."""
-    small, large = (("ann", "POST", "/text", text("a", it)) for it in (b"x", bytes(3_000_000)))
+    small, large = (("ann", "POST", "/text", text("a", data)) for data in (b"x", bytes(3_000_000)))
     with serving("no room", program, ["--db", f"{folder}/limited.db"], 1, prepare=small_files) as port:
         replies, _ = curl(port, [small, large, ("ann", "GET", "/paths", b"")])
     added, failed, listed = replies

@@ -26,8 +26,8 @@ def drawn(seed):
     rng, scenarios = random.Random(seed), Scenarios()
     config, requests = scenarios.server_config(rng), []
     while len(requests) < LENGTH:
-        it = scenarios.request(*scenarios.by_chance(rng))
-        request = (it.user, *scenarios.target(it), scenarios.body(it))
+        meant = scenarios.request(*scenarios.by_chance(rng))
+        request = (meant.user, *scenarios.target(meant), scenarios.body(meant))
         # (the model does it too; of a head that it doesn't read it has no reply to go on after)
         if not server.serve(scenarios.store, message(*request))[1]:
             requests.append(request)
@@ -62,7 +62,7 @@ def try_list(file, folder, name, requests, config):
     """Compares the replies to each request of a list, and to what is asked after it."""
     at = lambda end: f"{folder}/{name}{end}.db"
     options, anew = ["--config", config], ["--config", config, "--db", at("")]
-    in_memory = served(file, options, [it for request in requests for it in (request, *STATE)])
+    in_memory = served(file, options, [sent for request in requests for sent in (request, *STATE)])
     is_open = Open(file, [*options, "--db", at("-open")])
     for number, request in enumerate(requests):
         wanted = in_memory[number * (1 + len(STATE)) :][: 1 + len(STATE)]

@@ -30,8 +30,9 @@ EACH = 500
 DIGEST = """import hashlib
 from nixkeep_dev.testing import drawn
 made = hashlib.sha256()
-rows_of = lambda it: it.rows and [(name, sorted(map(repr, rows))) for name, rows in it.rows.items()]
-show = lambda it: made.update(repr([it.configs, rows_of(it), [vars(step) for step in it.steps]]).encode())
+rows_of = lambda tables: tables and [(name, sorted(map(repr, rows))) for name, rows in tables.items()]
+show = lambda scenario: made.update(
+    repr([scenario.configs, rows_of(scenario.rows), [vars(step) for step in scenario.steps]]).encode())
 drawn.tries(show, drawn.scenarios(), 1, 60)
 print(made.hexdigest())
 """

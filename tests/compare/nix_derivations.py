@@ -87,7 +87,8 @@ class Compared:
         # Where a path isn't known yet, the query has another answer than the text.
         if lines:
             query = self.nix.lines("nix-store", "--query", "--outputs", path)
-            report.same(f"the queried outputs of {path}", sorted(query), sorted(it.split(" ")[1] for it in lines), text)
+            report.same(f"the queried outputs of {path}", sorted(query),
+                        sorted(line.split(" ")[1] for line in lines), text)
 
     def spoiled(self, rng, path):
         """Where a text that is spoiled near its outputs or anywhere is taken by both, both show the same outputs."""

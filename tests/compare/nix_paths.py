@@ -38,14 +38,14 @@ class Texts:
         self.file, self.nix = file, nix
         self.names = [text(rng, 1, NAME) + text(rng, rng.randrange(30), NAME + ".-") for _ in range(count)]
         self.contents = [text(rng, rng.randrange(200), CONTENTS) + "." for _ in range(count)]
-        self.plain = self.files("plain", [literal(it) for it in self.contents])
+        self.plain = self.files("plain", [literal(content) for content in self.contents])
 
     def ran(self, *words, given=b""):
         return subprocess.run([self.file, *words], input=given, capture_output=True, check=True).stdout
 
     def files(self, name, contents, before=""):
         """The paths that Nix gives to texts, each an expression, in a file of this name."""
-        made = [f'(builtins.toFile "{name}" ({it}))\n' for name, it in zip(self.names, contents)]
+        made = [f'(builtins.toFile "{name}" ({content}))\n' for name, content in zip(self.names, contents)]
         Path(path := f"{self.nix.folder}/{name}.nix").write_text(f"{before}[\n{''.join(made)}]\n")
         return self.nix.value(path)
 

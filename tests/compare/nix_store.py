@@ -52,21 +52,21 @@ def expression(rng, folder, count):
     kinds, bindings, paths = {}, [], []
     for at in range(count):
         kind, before = rng.choice(["folder", "text", "text", "derivation", "derivation"]), list(kinds)
-        plain = [it for it in before if kinds[it] != "derivation"]
+        plain = [variable for variable in before if kinds[variable] != "derivation"]
         if kind == "folder":
             put_folder(rng, f"{folder}/folder{at}")
             bindings.append(f'o{at} = "${{builtins.path {{ path = ./folder{at}; name = "{name(rng, at)}"; }}}}";')
         elif kind == "text":
-            refs = " ".join(f"${{{it}}}" for it in rng.sample(plain, min(len(plain), rng.randrange(4))))
+            refs = " ".join(f"${{{variable}}}" for variable in rng.sample(plain, min(len(plain), rng.randrange(4))))
             bindings.append(f'o{at} = builtins.toFile "{name(rng, at)}" "text {at} {refs}\\n";')
         else:
-            inputs = " ".join(f"${{{it}}}" for it in rng.sample(before, min(len(before), rng.randrange(4))))
-            outputs = " ".join(f'"{it}"' for it in ["out", "dev", "lib"][: rng.choice([1, 1, 2, 3])])
+            inputs = " ".join(f"${{{variable}}}" for variable in rng.sample(before, min(len(before), rng.randrange(4))))
+            outputs = " ".join(f'"{output}"' for output in ["out", "dev", "lib"][: rng.choice([1, 1, 2, 3])])
             bindings.append(f'o{at} = derivation {{ name = "{name(rng, at)}"; system = "none"; builder = "/none"; '
                             f'inputs = "{inputs}"; outputs = [ {outputs} ]; }};')
         kinds[f"o{at}"] = kind
         paths.append(f"o{at}.drvPath" if kind == "derivation" else f"o{at}")
-    made = [it for it, kind in kinds.items() if kind == "derivation"]
+    made = [variable for variable, kind in kinds.items() if kind == "derivation"]
     outputs = " ".join(f'(map (it: [ {of}.drvPath "${{{of}.${{it}}}}" ]) {of}.outputs)' for of in made)
     return f"let\n{chr(10).join(bindings)}\nin [ [ {' '.join(paths)} ] (builtins.concatLists [ {outputs} ]) ]\n"
 
@@ -148,8 +148,8 @@ def graphs(program, seed, count, shared_folder):
         os.mkdir(folder := f"{shared_folder}/{at}")
         made.append(Graph(rng, program, folder))
     yield made
-    for it in made:
-        it.nix.clear()
+    for store in made:
+        store.nix.clear()
 
 
 # ---- what is compared
@@ -161,7 +161,8 @@ def compare_objects(graph):
     nix("nix", "copy", "--all", "--no-check-sigs", "--to", f"file://{graph.folder}/cache?compression=none")
     for path in objects:
         theirs = Path(f"{graph.folder}/cache/{path[len(STORE) + 1:][:32]}.narinfo").read_text().splitlines()
-        records = [[line for line in it if not line.startswith("URL: ")] for it in (kept.lines("info", path), theirs)]
+        records = [[line for line in record if not line.startswith("URL: ")]
+                   for record in (kept.lines("info", path), theirs)]
         same(f"the record of {path}", *records)
         dump = kept("cat-nar", path)
         same(f"the archive of {path}", dump, nix.archive(path))
@@ -173,7 +174,7 @@ def compare_objects(graph):
 def settings(folder, outputs, derivations):
     """The options of both for keep settings."""
     values = {"keep-outputs": str(outputs).lower(), "keep-derivations": str(derivations).lower()}
-    Path(path := f"{folder}/keep.toml").write_text("".join(f"{key} = {it}\n" for key, it in values.items()))
+    Path(path := f"{folder}/keep.toml").write_text("".join(f"{key} = {value}\n" for key, value in values.items()))
     return ["--config", path], [word for pair in values.items() for word in ("--option", *pair)]
 
 
@@ -197,7 +198,7 @@ def compare_collection(rng, graph):
     gone = sorted(nix.lines("nix-store", "--gc", "--print-dead", *theirs))
     nix("nix-store", "--gc", *theirs)
     same("what a collection deletes", kept.lines("gc", options=ours),
-         [*gone, f"freed {len(gone)} paths {sum(graph.objects[it][1] for it in gone)} bytes"])
+         [*gone, f"freed {len(gone)} paths {sum(graph.objects[base][1] for base in gone)} bytes"])
     same("what a collection leaves", kept.lines("list"), sorted(nix.objects()))
 
 

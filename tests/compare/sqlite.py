@@ -83,9 +83,9 @@ class Both(Store):
         self.says("add-text", "added", *refs, given=contents)
         self.says("root", "--permanent", "mine", path)
         self.says("root", "hers", path, user="ann")
-        for name in [it for it in self.world.permanent if rng.random() < 0.3]:
+        for name in [key for key in self.world.permanent if rng.random() < 0.3]:
             self.says("unroot", "--permanent", name)
-        for owner, name in [it for it in self.world.user if rng.random() < 0.3]:
+        for owner, name in [key for key in self.world.user if rng.random() < 0.3]:
             self.says("unroot", "--owner", owner, name)
         self.sessions(rng, path)
 
@@ -107,7 +107,7 @@ class Both(Store):
 def laid(schema, path, built, rng=None, mode=""):
     """A file of a schema that SQLite makes: its tables in any order, with those of foreign programs, where chance says
     so."""
-    made = [making(it) for it in tables_of(schema)]
+    made = [making(table) for table in tables_of(schema)]
     if rng:
         rng.shuffle(made)
     first, between, last = (mode + BEFORE, BETWEEN, AFTER) if rng else ("", "", "")
@@ -221,14 +221,16 @@ def misfits():
 def test_tables_that_are_of_no_schema(program, folder):
     for at, (schema, tables, more) in enumerate(misfits()):
         path, rows = f"{folder}/number{at}.db", Built().rows(schema)
-        put(path, {table: it for table, it in rows.items() if table in tables}, "".join(map(making, tables)), more)
+        put(path, {table: content for table, content in rows.items() if table in tables},
+            "".join(map(making, tables)), more)
         Refusing(program, path).refuses(BAD_SCHEMA, f"schema {schema} with {', '.join(tables)} {more}")
 
 
 def test_texts_that_are_no_utf_8(program, folder, sound):
     """In each column that has texts."""
-    spoiled = [(table, it) for table, (columns, *_) in TABLES.items() for it in re.findall(r"(\w+) TEXT", columns)]
-    texts = {f"bytes that are no text in {it[1]} of {it[0]}": NO_TEXT.format(*it) for it in spoiled}
+    spoiled = [(table, column) for table, (columns, *_) in TABLES.items()
+               for column in re.findall(r"(\w+) TEXT", columns)]
+    texts = {f"bytes that are no text in {place[1]} of {place[0]}": NO_TEXT.format(*place) for place in spoiled}
     refuse_each(program, folder, sound, texts)
 
 
@@ -260,7 +262,7 @@ def migrated(rng, file, path, schema):
     built.world.temporary.clear()
     laid(schema, path, built, rng, rng.choice(MODES))
     their_rows, store, what = sqlite(path, THEIRS), Both(file, path, built), f"a file of schema {schema}"
-    store.says(*rng.choice([[it] for it in SHOWN] + [["cat-nar", it] for it in [*store.world.objects][:3]]))
+    store.says(*rng.choice([[word] for word in SHOWN] + [["cat-nar", base] for base in [*store.world.objects][:3]]))
     third(store, rng, what)
     store.change_and_collect(rng, what)
     same(f"{what}: rows of foreign tables", sqlite(path, THEIRS), their_rows, path)

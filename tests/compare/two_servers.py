@@ -37,7 +37,7 @@ class Side:
         self.name, rng, scenarios = name, random.Random(f"{seed} {name}"), Scenarios()
         self.config = scenarios.server_config(rng)
         # (a list of each kind comes on one connection, so nothing that others ask comes between)
-        self.clients = [[[message(*it) for it in [*requests(), *kept()]]], *[[] for _ in range(1, CLIENTS)]]
+        self.clients = [[[message(*request) for request in [*requests(), *kept()]]], *[[] for _ in range(1, CLIENTS)]]
         for connections in [client for _ in range(CONNECTIONS) for client in self.clients]:
             connections.append(self.connection(scenarios, rng))
         # The connections in the order in which they were served: a client, which of its own it was, and its replies.
@@ -57,7 +57,7 @@ class Side:
         """The replies of the model, connection by connection as they were served, and the rows that it has then."""
         store, replies = Store(policy.config_of(self.config), World()), []
         for client, number, _ in self.served:
-            replies.append([b"".join(server.serve(store, it)[0]) for it in self.clients[client][number]])
+            replies.append([b"".join(server.serve(store, data)[0]) for data in self.clients[client][number]])
         return replies, tables.rows_of(store.world, store.dir)
 
 
@@ -82,9 +82,9 @@ def ask(running, side, client, both, start):
     for number, messages in enumerate(side.clients[client]):
         with running.connect() as connection:
             came = []
-            for it in messages:
+            for data in messages:
                 with contextlib.suppress(OSError):
-                    connection.sendall(it)
+                    connection.sendall(data)
                     if len(came) == len(messages) - 1:
                         # (so what is no whole head is answered, and not waited for)
                         connection.shutdown(socket.SHUT_WR)
@@ -104,8 +104,8 @@ def try_both(file, folder, sides):
             words = [file, "--config", f"{folder}/{at}.toml", "--db", f"{folder}/{at}.db"]
             running.append(stack.enter_context(Server(*words)))
         pairs = [(one, side, client) for one, side in zip(running, sides) for client in range(CLIENTS)]
-        for it in [pool.submit(ask, *pair, both, start) for pair in pairs]:
-            it.result()
+        for future in [pool.submit(ask, *pair, both, start) for pair in pairs]:
+            future.result()
     return sum(one != other for one, other in zip(both, both[1:]))
 
 

@@ -36,7 +36,7 @@ def came(program, given, at):
     return pieces.run([program, "serve"], [given[:at], given[at:]])
 
 
-@pytest.mark.parametrize("name, given, wanted", [pytest.param(*it, id=it[0]) for it in heads()])
+@pytest.mark.parametrize("name, given, wanted", [pytest.param(*case, id=case[0]) for case in heads()])
 def test_each_cut(program, some, name, given, wanted):
     places = some(len(given) - 1, name)
     with ProcessPoolExecutor(len(os.sched_getaffinity(0))) as pool:

@@ -74,7 +74,7 @@ class Session:
         self.name, self.requests, self.given = name, requests, messages(requests)
         self.ends = [*itertools.accumulate(len(message(*request)) for request in requests)]
         # (the head of a message ends before its body)
-        self.heads = [end - len(it[3]) if len(it) > 3 else end for it, end in zip(requests, self.ends)]
+        self.heads = [end - len(request[3]) if len(request) > 3 else end for request, end in zip(requests, self.ends)]
         path = tried.path(name)
         status, self.written, errors = tried.serve(path, self.given)
         if (status, errors) != (0, b""):
@@ -334,7 +334,7 @@ def test_a_large_session_byte_by_byte(tried, sessions, stream):
     check(fault, 0, try_one(tried, fault, 0)[0])
 
 
-@pytest.mark.parametrize("command", some_commands(), ids=lambda it: it.name)
+@pytest.mark.parametrize("command", some_commands(), ids=lambda command: command.name)
 @pytest.mark.parametrize("stream", ["read", "write"])
 @pytest.mark.parametrize("kind", KINDS[:3])
 def test_a_command(pool, tried, command, stream, kind):

@@ -50,8 +50,8 @@ class Target(Server):
 
     def asks(self, *request):
         """What comes on a connection of its own for a message, up to its end."""
-        with self.connect() as it:
-            return last_reply(it, *request)
+        with self.connect() as client:
+            return last_reply(client, *request)
 
 
 # ---- hostile clients: each is given a server and a time to end at
@@ -66,26 +66,26 @@ def wait(until):
 
 def trickle(front, server, until):
     """One byte of a head or a body at a time."""
-    with server.connect() as it:
-        it.sendall(front)
+    with server.connect() as client:
+        client.sendall(front)
         while time.monotonic() < until:
-            it.sendall(b"x")
+            client.sendall(b"x")
             time.sleep(0.05)
 
 
 def pour(front, piece, server, until):
     """Bytes without an end, as many as are taken."""
-    with server.connect() as it:
-        it.sendall(front)
-        it.settimeout(0.2)
+    with server.connect() as client:
+        client.sendall(front)
+        client.settimeout(0.2)
         while time.monotonic() < until:
             with contextlib.suppress(TimeoutError):
-                it.sendall(piece)
+                client.sendall(piece)
 
 
 def bodies_never_ended(server, until):
-    with server.connect() as it:
-        it.sendall(message("ann", "POST", "/text", b"name: a\n\n" + bytes(LARGE - 9))[:-1])
+    with server.connect() as client:
+        client.sendall(message("ann", "POST", "/text", b"name: a\n\n" + bytes(LARGE - 9))[:-1])
         wait(until)
 
 
@@ -93,21 +93,21 @@ def bodies_too_large(server, until):
     """A body that is refused for its length, sent whole in small pieces. Its sender hears so where it is sent in
     the time that the server grants."""
     since, came = time.monotonic(), b""
-    with server.connect() as it, contextlib.suppress(OSError):
+    with server.connect() as client, contextlib.suppress(OSError):
         since = time.monotonic()
-        it.sendall(POST % (LARGE + 1))
+        client.sendall(POST % (LARGE + 1))
         for _ in range((LARGE + 1) // 1024):
-            it.sendall(bytes(1024))
-        it.sendall(bytes(1))
-        came = b"".join(iter(lambda: it.recv(65_536), b""))
+            client.sendall(bytes(1024))
+        client.sendall(bytes(1))
+        came = b"".join(iter(lambda: client.recv(65_536), b""))
     if not came.endswith(b"refused: 38 too-large\n") and time.monotonic() - since < GRANTED:
         server.wrong.append(f"the sender of a body that is too large gets {came!r}")
 
 
 def replies_never_read(server, until):
-    with server.connect() as it:
-        it.setsockopt(socket.SOL_SOCKET, socket.SO_RCVBUF, 4096)
-        it.sendall(message("ann", "GET", f"/nar/{server.large}") * 32)
+    with server.connect() as client:
+        client.setsockopt(socket.SOL_SOCKET, socket.SO_RCVBUF, 4096)
+        client.sendall(message("ann", "GET", f"/nar/{server.large}") * 32)
         wait(until)
 
 
@@ -115,9 +115,9 @@ def silent(server, until):
     """1,000 connections at once. More wait than the system queues, so some are only asked for."""
     with contextlib.ExitStack() as held:
         for _ in range(1000):
-            it = held.enter_context(socket.socket())
-            it.setblocking(False)
-            it.connect_ex(("127.0.0.1", server.port))
+            client = held.enter_context(socket.socket())
+            client.setblocking(False)
+            client.connect_ex(("127.0.0.1", server.port))
         wait(until)
 
 
@@ -136,15 +136,15 @@ def resets(server, until):
                 message("ann", "GET", f"/nar/{server.large}")]
     while time.monotonic() < until:
         for given in messages:
-            with server.connect() as it:
-                it.setsockopt(socket.SOL_SOCKET, socket.SO_LINGER, struct.pack("ii", 1, 0))
-                it.sendall(given)
+            with server.connect() as client:
+                client.setsockopt(socket.SOL_SOCKET, socket.SO_LINGER, struct.pack("ii", 1, 0))
+                client.sendall(given)
         time.sleep(0.01)
 
 
-TINY = [("ann", "/source", it, b"refused: 41 bad-body-head") for it in (b"a: \n", b"reference: \n", b"name: a\n")]
+TINY = [("ann", "/source", piece, b"refused: 41 bad-body-head") for piece in (b"a: \n", b"reference: \n", b"name: a\n")]
 TINY += [("ann", "/source", b"\n", b"")]
-REFUSED = [(*it, b"\0", b"HTTP/1.1 40") for it in (("eve", "/text"), ("ann", "/nowhere"), ("ann", "/paths"))]
+REFUSED = [(*request, b"\0", b"HTTP/1.1 40") for request in (("eve", "/text"), ("ann", "/nowhere"), ("ann", "/paths"))]
 KINDS = {
     "slow heads": functools.partial(trickle, b"GET /paths HTTP/1.1\r\nstore-user: "),
     "slow bodies": functools.partial(trickle, POST % 1000 + b"name: "),
@@ -178,7 +178,7 @@ def granted(server):
 def server(program, shared_folder):
     with Target(program, shared_folder, stderr=subprocess.DEVNULL) as made:
         added = replies(made.asks(*imported(made.large, archive(CONTENTS))))
-        report.same("the answer to an import", [it[1] for it in added[0]], [LISTED])
+        report.same("the answer to an import", [reply[1] for reply in added[0]], [LISTED])
         yield made
 
 
@@ -192,7 +192,7 @@ def test_an_honest_client_next_to(server, count, name):
         while time.monotonic() < until or not answers:
             since = time.monotonic()
             came = replies(server.asks("ann", "GET", "/paths"))
-            if [it[1] for it in came[0]] != [LISTED]:
+            if [reply[1] for reply in came[0]] != [LISTED]:
                 report.fail(f"{name}: the honest client gets {came!r}")
             answers, slowest = answers + 1, max(slowest, time.monotonic() - since)
             time.sleep(0.05)
@@ -220,9 +220,9 @@ STOPS = {
 }
 
 
-def sip(it):
+def sip(client):
     with contextlib.suppress(OSError):
-        while it.recv(1):
+        while client.recv(1):
             time.sleep(1)
 
 
@@ -233,12 +233,12 @@ def stop_at(program, folder, name):
         if given is None:
             server.asks(*imported(server.large, archive(CONTENTS)))
             given = message("ann", "GET", f"/nar/{server.large}") * 32
-        with server.connect() as it:
-            it.setsockopt(socket.SOL_SOCKET, socket.SO_RCVBUF, 4096)
+        with server.connect() as client:
+            client.setsockopt(socket.SOL_SOCKET, socket.SO_RCVBUF, 4096)
             since = time.monotonic()
-            it.sendall(given)
+            client.sendall(given)
             if name == SIPS:
-                threading.Thread(target=sip, args=[it], daemon=True).start()
+                threading.Thread(target=sip, args=[client], daemon=True).start()
             return server.ended(2 * LIMIT + 20), time.monotonic() - since
 
 

@@ -87,16 +87,17 @@ def texts_of(came, is_server):
 
 FILE, A, B = archive(b"abc"), "0" * 32 + "-a", "1" * 32 + "-b"
 # Words without an input, and such that read one; `store.toml` and `bad.toml` are configurations.
-COMMANDS = [(it.split(), b"") for it in (
+COMMANDS = [(line.split(), b"") for line in (
     "--user root who", "--config store.toml --user ann --group users who", "who", "text-path .",
     "--config bad.toml --user root who", "text-path n x", "", "--help", "text-path --help", "whom", "who x", "--user",
     "--nope", "--user a --user b who", "--config bad.toml ls")]
-COMMANDS += [(it.split(), given) for it, given in (
+COMMANDS += [(line.split(), given) for line, given in (
     (f"text-path n {B} {A}", b"abc"), ("--config store.toml text-path n", b"abc"), (f"source-path n {B} {A}", FILE),
     ("--config store.toml source-path n", FILE[:-1]), ("ls", FILE), ("ls", FILE + b"x"))]
 
 
-@pytest.mark.parametrize("words, given", COMMANDS, ids=lambda it: " ".join(it) if isinstance(it, list) else len(it))
+@pytest.mark.parametrize("words, given", COMMANDS,
+                         ids=lambda value: " ".join(value) if isinstance(value, list) else len(value))
 def test_lines(refusing, words, given):
     files = {"store.toml": CONFIG, "bad.toml": 'store-dir = "/"\n'}
     placed = [refusing.put(word, files[word]) if word in files else word for word in words]
@@ -104,7 +105,7 @@ def test_lines(refusing, words, given):
 
 
 @pytest.mark.parametrize("wanted, settings, words, given", [
-    pytest.param(*it, id=f"{it[0].strip()}: {' '.join(it[2])}"[:99]) for it in all_refused()])
+    pytest.param(*case, id=f"{case[0].strip()}: {' '.join(case[2])}"[:99]) for case in all_refused()])
 def test_refused_lines(refusing, wanted, settings, words, given):
     words = ["--config", refusing.put("refused.toml", settings), *words]
     name = f"{wanted.strip()}: {' '.join(words[2:])}"[:99]
@@ -142,7 +143,7 @@ class Served:
 
     def __init__(self, refusing):
         self.refusing, self.where, self.answered = refusing, {}, 0
-        self.path, self.spare, self.config = (refusing.at(it) for it in ("store.db", "spare.db", "settings.toml"))
+        self.path, self.spare, self.config = (refusing.at(name) for name in ("store.db", "spare.db", "settings.toml"))
 
     def over(self, path, requests, refused=0):
         words = ["--config", self.config, "--db", path, "serve"]
@@ -165,7 +166,8 @@ class Served:
         self.answered += came[:1] == [FAILED_REPLY]
         # a request that has failed changes nothing; without its reply it may have been done
         states = [before, ample[1:]] if not came else [before] if came[0] == FAILED_REPLY else [ample[1:]]
-        fits = [it for it in states if all(one == other or one == FAILED_REPLY for one, other in zip(came[1:], it))]
+        fits = [state for state in states
+                if all(one == other or one == FAILED_REPLY for one, other in zip(came[1:], state))]
         if not fits:
             return f"the store is neither that before nor that after: {came}"
         if self.state(self.spare) not in fits:
@@ -194,7 +196,7 @@ def before_each(served):
     return states
 
 
-@pytest.mark.parametrize("number", range(len(REQUESTS)), ids=lambda it: f"{it} {REQUESTS[it][0]}")
+@pytest.mark.parametrize("number", range(len(REQUESTS)), ids=lambda number: f"{number} {REQUESTS[number][0]}")
 def test_store(served, before_each, number):
     (name, settings, request), (kept, before) = REQUESTS[number], before_each[number]
     served.refusing.put("settings.toml", settings)
@@ -227,7 +229,7 @@ def worked():
     refused; and the text of the reply."""
     p, x, y = "0" * 32 + "-p", "1" * 32 + "-x", "2" * 32 + "-y"
     empty, small, long = archive(b""), archive(b"mycontent\n"), archive(b"x" * 65_432)
-    three = [imported(p, empty), *[imported(it, empty, ("reference", p)) for it in (x, y)]]
+    three = [imported(p, empty), *[imported(base, empty, ("reference", p)) for base in (x, y)]]
     collect = lambda limit: ("ann", "POST", "/collect", lines_of(("max-freed", limit)))
     yield three, collect(0), freed(112)
     yield three, collect(1), freed(112, x)
@@ -250,7 +252,7 @@ def cycle(one, other):
 
 
 @pytest.mark.parametrize("made, sent, text", [
-    pytest.param(*it, id=f"{at} {' '.join(it[1][:3])}") for at, it in enumerate(worked())])
+    pytest.param(*case, id=f"{at} {' '.join(case[1][:3])}") for at, case in enumerate(worked())])
 def test_again(refusing, made, sent, text):
     served = Served(refusing)
     served.where = {"REFUSE_FROM_INPUT": "1"}
@@ -267,7 +269,8 @@ def once_more(served, request, text):
     """Refuses each allocation of a request over a copy of the file, and makes the request once more."""
     name = f"{' '.join(request[:3])}, once more"
     over = lambda given, refused=0: served.over(copy(served.path, served.spare), given, refused)
-    ample, twice = [all_replies(over([*it, *STATE])[1], len(it) + len(STATE)) for it in ([request], [request] * 2)]
+    ample, twice = [all_replies(over([*made, *STATE])[1], len(made) + len(STATE))
+                    for made in ([request], [request] * 2)]
     report.same(name, ample[0][1], text)
     over([request])
     served.refusing.each(name, lambda refused: fault_of_both(
@@ -411,7 +414,7 @@ def test_openings(refusing, schema):
     """A command that opens a file of each schema: one that fails has left the rows, or those of the third schema."""
     built = some_store(schema)
     put(whole := refusing.at(f"schema{schema}.db"), built.rows(schema), made_by(schema))
-    allowed, words = [built.rows(it) for it in (schema, 3)], ["--user", "root", "roots"]
+    allowed, words = [built.rows(version) for version in (schema, 3)], ["--user", "root", "roots"]
     (status, printed, _), rows = open_each(refusing, f"a file of schema {schema}", whole, words, allowed)
     if status or printed.count(b"\n") != len(built.world.roots()) or rows != allowed[1]:
         report.fail(f"a file of schema {schema}: status {status}, {printed!r}, or other rows")

@@ -39,16 +39,16 @@ def round_trip():
     listener, seconds = socket.create_server(("127.0.0.1", 0)), []
 
     def echo():
-        with listener.accept()[0] as it:
-            while data := it.recv(64):
-                it.sendall(data)
+        with listener.accept()[0] as client:
+            while data := client.recv(64):
+                client.sendall(data)
 
     threading.Thread(target=echo, daemon=True).start()
-    with listener, socket.create_connection(listener.getsockname()) as it:
+    with listener, socket.create_connection(listener.getsockname()) as client:
         for _ in range(300):
             since = time.monotonic()
-            it.sendall(b"x")
-            it.recv(64)
+            client.sendall(b"x")
+            client.recv(64)
             seconds.append(time.monotonic() - since)
     return statistics.median(seconds)
 
@@ -72,12 +72,12 @@ class Soaked(Server):
     def ask_all(self):
         """The seconds that a request took on a connection of all; their statuses have to be those that are meant."""
         since = time.monotonic()
-        with self.connect() as it:
+        with self.connect() as client:
             for method, target, body, _ in REQUESTS[:-1]:
-                it.sendall(message("ann", method, target, *[body] if body else []))
-            came = last_reply(it, "ann", *REQUESTS[-1][:2])
+                client.sendall(message("ann", method, target, *[body] if body else []))
+            came = last_reply(client, "ann", *REQUESTS[-1][:2])
         statuses = [int(head.split()[1]) for head, _ in replies(came)[0]]
-        if statuses != [it[3] for it in REQUESTS]:
+        if statuses != [request[3] for request in REQUESTS]:
             report.fail(f"the statuses are {statuses}")
         return (time.monotonic() - since) / len(REQUESTS)
 

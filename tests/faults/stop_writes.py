@@ -43,7 +43,7 @@ LOG = "-wal"
 FAILED, REFUSED = b"failed: disk\n", b"refused: 21 bad-schema\n"
 NOTHING = {"": None, LOG: None}
 # What is asked one after another: the name, the settings and the messages.
-REQUESTS = [("the making of the tables", "", []), *((name, settings, [it]) for name, settings, it in named())]
+REQUESTS = [("the making of the tables", "", []), *((name, settings, [request]) for name, settings, request in named())]
 
 
 def content(path):
@@ -53,8 +53,8 @@ def content(path):
 def lay(path, contents):
     """The file and its log have these bytes, or aren't there."""
     for more, data in contents.items():
-        for it in (path + more, path + more + ".synced", path + more + ".named"):
-            Path(it).unlink(missing_ok=True)
+        for file in (path + more, path + more + ".synced", path + more + ".named"):
+            Path(file).unlink(missing_ok=True)
         if data is not None:
             Path(path + more).write_bytes(data)
 
@@ -72,7 +72,7 @@ def left(path, before):
     for more in states:
         if before[more] is None and not Path(f"{path}{more}.named").exists():
             states[more].add(None)
-    return [dict(zip(states, it)) for it in itertools.product(*states.values())]
+    return [dict(zip(states, chosen)) for chosen in itertools.product(*states.values())]
 
 
 class Tried(Loaded):
@@ -118,7 +118,7 @@ class Tried(Loaded):
         status, written, errors = self.serve(requests, STOP_AT=at, STOP_FAILS=1)
         if (status, written, errors) == (3, b"", REFUSED):
             # (an empty log may be there)
-            is_changed = any((it or b"") != (before[more] or b"") for more, it in held(self.path).items())
+            is_changed = any((data or b"") != (before[more] or b"") for more, data in held(self.path).items())
             return "a file that is refused is changed" if is_changed else None
         # (if nothing is asked, an end without a failure says that the tables are made)
         is_done = written == self.written and (bool(requests) or status == 0)
@@ -149,7 +149,7 @@ class Tried(Loaded):
         self.total, after = self.counted()[0], held(self.path)
         self.was, self.after = was, self.state(after)
         # (a file that is being made is no database yet)
-        self.rows = [self.spare_rows(it) for it in (before, after)] if before[""] is not None else []
+        self.rows = [self.spare_rows(state) for state in (before, after)] if before[""] is not None else []
         if isinstance(self.after[0], str):
             report.fail(f"{what}: {self.after[0]}")
         self.was = self.was or self.after
@@ -188,7 +188,7 @@ def before_each(tried):
     return states
 
 
-@pytest.mark.parametrize("number", range(len(REQUESTS)), ids=lambda it: f"{it} {REQUESTS[it][0]}")
+@pytest.mark.parametrize("number", range(len(REQUESTS)), ids=lambda number: f"{number} {REQUESTS[number][0]}")
 def test_requests(tried, before_each, number):
     name, settings, requests = REQUESTS[number]
     tried.put_settings(settings)
@@ -223,7 +223,7 @@ def long_log(tried):
     killed(tried.file, tried.path, [("ann", "POST", "/text", text("a", b"x"))], "--config", tried.config)
     both = [("ann", "POST", root, path_of(made)), ("ann", "DELETE", root)]
     first_copy(tried, 100 * [16 * both])
-    return first_copy(tried, [[it] for it in 20 * both])
+    return first_copy(tried, [[request] for request in 20 * both])
 
 
 def test_copies(tried, long_log):

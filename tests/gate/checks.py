@@ -165,9 +165,9 @@ def test_listed():
     bodies, and coverage.txt for each test of a tool that is measured, and no other."""
     product = {crate for crate in program.listed() if crate not in clauses.NO_PRODUCT}
     yield from [f"{plants.NAME}: {crate}" for crate in sorted(product ^ plants.listed().keys())]
-    yield from [f"{recorded.NAME}: {crate}" for crate in sorted({*bodies.having()} ^ recorded.listed().keys())]
+    yield from [f"{recorded.NAME}: {crate}" for crate in sorted({*bodies.having_bodies()} ^ recorded.listed().keys())]
     measured = {covered.OF_ALL, *map(covered.of_one, covered.measured_tests())}
-    yield from [f"coverage.txt: {it}" for it in sorted(measured ^ Raised("coverage.txt").kept.keys())]
+    yield from [f"coverage.txt: {name}" for name in sorted(measured ^ Raised("coverage.txt").kept.keys())]
 
 
 @finds_nothing

@@ -42,8 +42,9 @@ def top(shared_folder):
 @pytest.fixture(scope="module")
 def running(request, program, seed, shared_folder, top, bound):
     """By its name each test that is to run and be measured; None comes of one that the bound leaves out."""
-    option, of_module = request.config.getoption, [it for it in request.session.items if it.path == request.path]
-    names = dict.fromkeys(it.callspec.params["name"] for it in of_module if it.callspec.params["name"] != TOGETHER)
+    option, of_module = request.config.getoption, [item for item in request.session.items if item.path == request.path]
+    names = dict.fromkeys(test.callspec.params["name"] for test in of_module
+                          if test.callspec.params["name"] != TOGETHER)
 
     def one(name):
         if not bound.leaves_out([name]):
@@ -54,7 +55,7 @@ def running(request, program, seed, shared_folder, top, bound):
         futures = {name: pool.submit(one, name) for name in names}
         yield futures
         pool.shutdown(cancel_futures=True)
-    count = sum(bool(not it.cancelled() and it.result()) for it in futures.values())
+    count = sum(bool(not future.cancelled() and future.result()) for future in futures.values())
     of_day = f", of the day by seed {seed}" if option("--today") else ""
     report.ends_with(f"{count} of {len(covered.measured_tests())} tests measured{of_day}, in {spent() / 60:.1f}"
                      " processor minutes")
@@ -80,7 +81,7 @@ def test_passes(name, running, bound, pytestconfig):
 
 def test_lines(name, running, bound, top, pytestconfig):
     names = running if name == TOGETHER else [name]
-    lines = covered.union(measured_of(running[it], bound, pytestconfig.getoption("--today")) for it in names)
+    lines = covered.union(measured_of(running[test], bound, pytestconfig.getoption("--today")) for test in names)
     percent, modules = covered.percents(lines, top)
     kept, what = Raised("coverage.txt"), covered.OF_ALL if name == TOGETHER else covered.of_one(name)
     for module, part in modules if name == TOGETHER else []:

@@ -33,7 +33,7 @@ def chosen(words):
         return [*every.values(), *(edit for _, edit in (bodies.every(True) if words.option("--bodies") else []))]
     # (those of the day come first: they have a bound)
     of_day = bodies.definitions_of_day(words.day) if words.option("--today") else []
-    return [every[key] for key in [*of_day, *(it for it in words.always if it in every)]]
+    return [every[key] for key in [*of_day, *(name for name in words.always if name in every)]]
 
 
 def pytest_generate_tests(metafunc):
@@ -60,7 +60,7 @@ def tried(request, words):
             running |= dict.fromkeys(some, pool.submit(try_each, some, named, words.bound, not words.is_part))
         yield running
         pool.shutdown(cancel_futures=True)
-    done = [it.result() for it in dict.fromkeys(running.values()) if not it.cancelled()]
+    done = [future.result() for future in dict.fromkeys(running.values()) if not future.cancelled()]
     words.tell(WHAT, len(bodies.every(False)), [verdict for verdicts in done for verdict in verdicts.values()])
 
 

@@ -87,10 +87,10 @@ def top(shared_folder, pytestconfig):
 
 def differences(said, known):
     """What a run says of a crate otherwise than the list."""
-    rows, unknown = said.accepted(), {it for it in known if not said.is_known(it)}
-    wrong = [f"{plants.NAME} has it, and it isn't accepted now: {it}" for it in sorted(known - rows - unknown)]
+    rows, unknown = said.accepted(), {row for row in known if not said.is_known(row)}
+    wrong = [f"{plants.NAME} has it, and it isn't accepted now: {row}" for row in sorted(known - rows - unknown)]
     added = [] if said.is_cut() else sorted(rows - known)
-    return [*wrong, *(f"accepted, and {plants.NAME} doesn't have it: {it}" for it in added)]
+    return [*wrong, *(f"accepted, and {plants.NAME} doesn't have it: {row}" for row in added)]
 
 
 def test_accepted(crate, top, pytestconfig):
@@ -101,7 +101,7 @@ def test_accepted(crate, top, pytestconfig):
         rows = listed[crate]
         listed[crate] = sorted(said.accepted() if rows is None else said.accepted() & {*rows})
         plants.write(listed)
-    known, tried = {*(listed[crate] or [])}, sum(it != "not-run" for it in said.kinds.values())
+    known, tried = {*(listed[crate] or [])}, sum(kind != "not-run" for kind in said.kinds.values())
     report.ends_with(f"{said.line}\n{tried:,} of {len(said.kinds):,} bodies tried")
     if wrong := differences(said, known):
         pytest.fail("\n".join(wrong), pytrace=False)

@@ -45,7 +45,7 @@ def is_script(name):
 
 
 SCRIPTS = sorted(filter(is_script, git("ls-files", "-co", "--exclude-standard", "--", *FOLDERS)))
-BUILDERS = sorted({*BUILDS, *(it for it in SCRIPTS if not it.startswith((*NEEDS_NONE, *WITHOUT)))})
+BUILDERS = sorted({*BUILDS, *(script for script in SCRIPTS if not script.startswith((*NEEDS_NONE, *WITHOUT)))})
 
 
 def put_stand_in(folder):

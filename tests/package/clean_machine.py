@@ -62,9 +62,9 @@ class Machine:
         return said
 
     def files(self):
-        paths = {str(Path(at, it).relative_to(self.root)) for at, folders, names in os.walk(self.root)
-                 for it in [*names, *folders]}
-        return {it for it in paths if not f"{it}/".startswith(tuple(f"{aside}/" for aside in ASIDE))}
+        paths = {str(Path(at, name).relative_to(self.root)) for at, folders, names in os.walk(self.root)
+                 for name in [*names, *folders]}
+        return {path for path in paths if not f"{path}/".startswith(tuple(f"{aside}/" for aside in ASIDE))}
 
 
 def make(machine, other):
@@ -82,7 +82,7 @@ def make(machine, other):
 @pytest.fixture(scope="module")
 def deb(pytestconfig, shared_folder):
     """The package, of the program that is tried."""
-    given = [f"--program={str(Path(it).absolute())}" for it in [pytestconfig.getoption("--program")] if it]
+    given = [f"--program={str(Path(file).absolute())}" for file in [pytestconfig.getoption("--program")] if file]
     status, said = run([f"{HERE}/bin/package", "--to", shared_folder, *given])
     report.right("bin/package", status and said)
     return said.split()[0]

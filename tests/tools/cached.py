@@ -37,7 +37,8 @@ def figures(store: Any, user: str = "prometheus") -> dict:
     assert status == 200
     values = {}
     for family in text_string_to_metric_families(page.decode()):
-        for it in family.samples:
-            labels = [it.labels[key] for key in ("method", "route", "status", "found", "le") if key in it.labels]
-            values[it.name, *labels] = it.value
+        for sample in family.samples:
+            labels = [sample.labels[key] for key in ("method", "route", "status", "found", "le")
+                      if key in sample.labels]
+            values[sample.name, *labels] = sample.value
     return values

@@ -69,7 +69,7 @@ def some_store(rng: random.Random, path: str, schema: int | None = None) -> Worl
 def schema_pages(path):
     """The pages of the list of tables, where SQLite says which they are; else the first."""
     with contextlib.closing(sqlite3.connect(path)) as conn, contextlib.suppress(sqlite3.Error):
-        return [it for it, in conn.execute("SELECT pageno FROM dbstat WHERE name = 'sqlite_schema'")]
+        return [number for number, in conn.execute("SELECT pageno FROM dbstat WHERE name = 'sqlite_schema'")]
     return [1]
 
 
@@ -81,7 +81,7 @@ def change_bytes(rng: random.Random, path: str) -> str:
     schema = schema_pages(path)
     data = bytearray(Path(path).read_bytes())
     page, edits = int.from_bytes(data[16:18], "big"), []
-    others = [it - 1 for it in range(1, 1 + len(data) // page) if it not in schema]
+    others = [number - 1 for number in range(1, 1 + len(data) // page) if number not in schema]
     for _ in range(rng.choice([1, 1, 2, 5])):
         near = rng.randrange(min(page, 200))
         at = rng.choice([page * rng.choice(others) + rng.choice([near, near, rng.randrange(page)]), rng.randrange(100)])

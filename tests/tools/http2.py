@@ -27,7 +27,7 @@ def number(count, bits, first):
 
 def packed(fields: Iterable[tuple[bytes, bytes]]) -> bytes:
     """Fields as literals that aren't indexed."""
-    text = lambda it: number(len(it), 7, 0) + it
+    text = lambda data: number(len(data), 7, 0) + data
     return b"".join(b"\0" + text(name) + text(value) for name, value in fields)
 
 
@@ -44,7 +44,7 @@ def status_of(block):
 
 def digits(text):
     """Digits of Huffman's code: 0 to 2 have five bits, the others six."""
-    bits, decoded = "".join(f"{it:08b}" for it in text), ""
+    bits, decoded = "".join(f"{byte:08b}" for byte in text), ""
     while bits:
         if (short := int(bits[:5], 2)) < 3:
             decoded, bits = decoded + str(short), bits[5:]
@@ -77,8 +77,8 @@ class Connection:
         """Begins a stream with these fields and pieces of a body. Its number."""
         self.last += 2
         self.send(HEADERS, END_HEADERS | (END_STREAM if ends and not pieces else 0), self.last, packed(fields))
-        for at, it in enumerate(pieces, 1):
-            self.send(DATA, END_STREAM if ends and at == len(pieces) else 0, self.last, it)
+        for at, piece in enumerate(pieces, 1):
+            self.send(DATA, END_STREAM if ends and at == len(pieces) else 0, self.last, piece)
         return self.last
 
     def reset(self, stream: int) -> None:
@@ -106,8 +106,8 @@ class Connection:
             self.most = named.get(3, self.most)
             self.send(SETTINGS, ACK, 0)
         elif kind == DATA and payload:
-            for it in (0, stream):
-                self.send(WINDOW, 0, it, struct.pack(">I", len(payload)))
+            for ident in (0, stream):
+                self.send(WINDOW, 0, ident, struct.pack(">I", len(payload)))
         elif kind == GOAWAY:
             self.is_closed, self.taken = True, struct.unpack(">I", payload[:4])[0]
 

@@ -17,7 +17,7 @@ from tests.tools.servers import answering
 
 # An archive above this is large here.
 LEAST = 65_536
-WELL, NO_BLOBS = ({"store": "answers", "blobs": it} for it in ("answers", "doesn't answer"))
+WELL, NO_BLOBS = ({"store": "answers", "blobs": state} for state in ("answers", "doesn't answer"))
 
 
 def archive_of(rng: random.Random, size: int = 400_000) -> bytes:

@@ -14,21 +14,22 @@ SOCKET = "unix:/run/login/socket"
 # Who the stand-in knows besides the users of team red, and the user that it says of each login.
 OTHERS = {"foreign:foreign-secret": "ann@evil.example", "domain:domain-secret": "ann@example.org",
           "odd:odd-secret": "a b", "nameless:nameless-secret": None}
-KNOWN = {f"{it}:{it}-secret": it for it in TEAM.PASSWORDS["red"]} | OTHERS
+KNOWN = {f"{user}:{user}-secret": user for user in TEAM.PASSWORDS["red"]} | OTHERS
 
 
 def program(requests):
     """What oauth2-proxy answers: to nginx 202 and the user, or 401; and on the page where a browser signs in."""
 
     def answer(method, target, fields):
-        requests.append((method, target, {key.lower(): it for key, it in fields.items()}))
+        requests.append((method, target, {key.lower(): value for key, value in fields.items()}))
         if target == "/oauth2/callback":
             return 302, "text/plain", b"", ("location", "/"), ("set-cookie", f"session={'x' * 8000}")
         if target != "/oauth2/auth":
             return 401 if method == "POST" else 200, "text/plain", b"a page\n"
         words = base64.b64decode(fields.get("authorization", "").partition(" ")[2] or b"").decode("latin-1")
         user = KNOWN.get(words)
-        return 202 if words in KNOWN else 401, "text/plain", b"", *[("x-auth-request-user", it) for it in [user] if it]
+        return 202 if words in KNOWN else 401, "text/plain", b"", *[
+        ("x-auth-request-user", name) for name in [user] if name]
 
     return answer
 

@@ -32,18 +32,18 @@ def pack(to: str, words: list[str]) -> list[str]:
 
 
 def depends(deb: str) -> list[str]:
-    return [it.strip() for it in output_of("dpkg-deb", "-f", deb, "Depends").split(",")]
+    return [package.strip() for package in output_of("dpkg-deb", "-f", deb, "Depends").split(",")]
 
 
 def libc_of(file: str) -> str:
     """The latest version of the C library of which a program names a function."""
     versions = re.findall(r"Name: GLIBC_([0-9.]+)", output_of("readelf", "--version-info", "--wide", file))
-    return max(versions, key=lambda it: [int(part) for part in it.split(".")])
+    return max(versions, key=lambda version: [int(part) for part in version.split(".")])
 
 
 def python_packages(deb: str) -> set[str]:
     """The modules of Python whose packages a package names, but for `python3-` before each."""
-    fields = [output_of("dpkg-deb", "-f", deb, it) for it in ("Depends", "Recommends", "Suggests")]
+    fields = [output_of("dpkg-deb", "-f", deb, field) for field in ("Depends", "Recommends", "Suggests")]
     return {*re.findall(r"python3-([\w-]+)", " ".join(fields))}
 
 
@@ -52,13 +52,13 @@ def imported() -> set[str]:
     modules = set()
     for path in tracked("tools/*"):
         text = Path(HERE, path).read_text()
-        for it in ast.walk(ast.parse(text)) if "python3" in text.partition("\n")[0] or path.endswith(".py") else []:
-            names = [each.name for each in it.names] if isinstance(it, ast.Import) else []
-            names += [it.module or ""] if isinstance(it, ast.ImportFrom) and not it.level else []
+        for node in ast.walk(ast.parse(text)) if "python3" in text.partition("\n")[0] or path.endswith(".py") else []:
+            names = [alias.name for alias in node.names] if isinstance(node, ast.Import) else []
+            names += [node.module or ""] if isinstance(node, ast.ImportFrom) and not node.level else []
             modules |= {each.partition(".")[0] for each in names}
     # (jinja2 has markupsafe with it, and boto3 botocore)
     modules -= {*sys.stdlib_module_names, "nixkeep_tools", "markupsafe", "botocore", ""}
-    return {it.replace("_", "-") for it in modules}
+    return {module.replace("_", "-") for module in modules}
 
 
 def sums(deb: str, room: str) -> tuple[str, list[str], list[str]]:

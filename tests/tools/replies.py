@@ -56,7 +56,7 @@ def chunked(*fields: str, text: bytes = b"3\r\npat\r\n2\r\nh\n\r\n0\r\n\r\n", **
 
 
 def bytewise(data):
-    return [bytes([it]) for it in data]
+    return [bytes([byte]) for byte in data]
 
 
 LARGE = bytes(range(256)) * 1000
@@ -105,8 +105,8 @@ TABLE = {
     "the fields of a mailbox": (whole("From ann", "From: ann"), DONE),
     "line feeds alone": (whole(end="\n"), DONE),
     "a carriage return in a field": (whole("x-return: a\rb"), DONE),
-    "99 fields": (whole(*[f"x-{it}: 1" for it in range(97)]), DONE),
-    "100 fields": (whole(*[f"x-{it}: 1" for it in range(98)]), NOT_HTTP),
+    "99 fields": (whole(*[f"x-{at}: 1" for at in range(97)]), DONE),
+    "100 fields": (whole(*[f"x-{at}: 1" for at in range(98)]), NOT_HTTP),
     "a field of 60,000 bytes": (whole(f"x-long: {'x' * 60_000}"), DONE),
     "a field of 70,000 bytes": (whole(f"x-long: {'x' * 70_000}"), NOT_HTTP),
     "the connection is kept": (whole("connection: keep-alive", "keep-alive: timeout=5"), DONE),
@@ -204,7 +204,8 @@ TABLE = {
     "chunks byte by byte": (bytewise(chunked()), DONE),
     "a text in pieces": ([whole(text=LARGE)[at : at + 30_000] for at in range(0, 260_000, 30_000)],
                          DONE._replace(output=LARGE)),
-    "chunks of a long text": (chunked(text=b"".join(b"%x\r\n%b\r\n" % (len(it), it) for it in (LARGE, LARGE, b""))),
+    "chunks of a long text": (chunked(text=b"".join(b"%x\r\n%b\r\n" % (len(data), data)
+                                                    for data in (LARGE, LARGE, b""))),
                               DONE._replace(output=LARGE + LARGE)),
     "the head alone, then the text": ([whole()[:-5], TEXT], DONE),
     "a head in two pieces": ([whole()[:-7], whole()[-7:]], DONE),
@@ -218,7 +219,7 @@ OF_PORTS = {
 
 # ---- random heads
 
-HEADS = [it.partition(b"\r\n\r\n")[0] for it, _ in TABLE.values() if isinstance(it, bytes) and len(it) < 1000]
+HEADS = [data.partition(b"\r\n\r\n")[0] for data, _ in TABLE.values() if isinstance(data, bytes) and len(data) < 1000]
 TOKENS = [b"\r\n", b"\n", b"\r", b" ", b"\t", b":", b"\0", b"close", b"0", b"100", b"content-length: 7\r\n", b"\r\n ",
           b"connection: close\r\n", b"transfer-encoding: chunked\r\n", b"HTTP/1.1 200 OK\r\n", b"\x1c", b"From "]
 
@@ -243,7 +244,7 @@ def by_http_client(head: bytes) -> tuple | None:
         reply.begin()
     except http.client.HTTPException:
         return None
-    fields = [reply.headers.get(it) for it in ("content-type", "location")]
+    fields = [reply.headers.get(name) for name in ("content-type", "location")]
     return reply.status, reply.reason, fields, reply.length, reply.will_close
 
 
@@ -255,19 +256,19 @@ def request(stream, is_whole):
     head = []
     while (line := stream.readline()) not in (b"\r\n", b""):
         head.append(line.lower())
-    length = [int(it.partition(b":")[2]) for it in head if it.startswith(b"content-length:")]
+    length = [int(field.partition(b":")[2]) for field in head if field.startswith(b"content-length:")]
     stream.read(sum(length) if is_whole else 0)
     return bool(head)
 
 
 def answer(connection, pieces):
-    for it in [pieces] if isinstance(pieces, bytes) else pieces:
-        if it is RESET:
+    for piece in [pieces] if isinstance(pieces, bytes) else pieces:
+        if piece is RESET:
             connection.setsockopt(socket.SOL_SOCKET, socket.SO_LINGER, struct.pack("ii", 1, 0))
             # (what was sent before is lost if it isn't read yet)
             time.sleep(0.3)
             return
-        connection.sendall(it)
+        connection.sendall(piece)
         if not isinstance(pieces, bytes):
             time.sleep(0.001)
 
@@ -278,9 +279,9 @@ def serve(listening, context, replies, is_early):
     with contextlib.suppress(OSError), listening.accept()[0] as plain:
         with context.wrap_socket(plain, server_side=True) if context else plain as connection:
             with contextlib.suppress(OSError), connection.makefile("rb") as stream:
-                for it in replies:
+                for pieces in replies:
                     if request(stream, not is_early):
-                        answer(connection, it)
+                        answer(connection, pieces)
             if is_early:
                 # (closed with bytes that nobody has read, which resets it once the reply is read)
                 time.sleep(0.3)

@@ -188,8 +188,8 @@ class Answers(BaseHTTPRequestHandler):
         status, media, text, *fields = self.server.reply_to(self.command, self.path, self.headers)
         self.send_response(status)
         length = 1 << 40 if text is None else len(text)
-        for it in [("content-type", media), ("content-length", str(length)), *fields]:
-            self.send_header(*it)
+        for field in [("content-type", media), ("content-length", str(length)), *fields]:
+            self.send_header(*field)
         self.end_headers()
         with contextlib.suppress(OSError):
             while text is None:

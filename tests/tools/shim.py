@@ -53,7 +53,7 @@ def is_text(word):
 
 def caller(options):
     """The value of `--as`: a bad one where the names aren't plain, and no text where one is none."""
-    names = [options[it] for it in ("user", "group") if it in options]
+    names = [options[key] for key in ("user", "group") if key in options]
     is_plain = "user" in options and all(map(paths.is_plain_name, names))
     return ":".join(names) if is_plain or not all(map(is_text, names)) else ""
 
@@ -69,7 +69,8 @@ class Ended(Exception):
 def sockets(folder):
     """The sockets among the open files of a process, as links of /proc."""
     with contextlib.suppress(OSError):
-        return {it for it in (os.readlink(f"{folder}/{name}") for name in os.listdir(folder)) if it[:7] == "socket:"}
+        return {link for link in (os.readlink(f"{folder}/{name}") for name in os.listdir(folder))
+                if link[:7] == "socket:"}
     return set()
 
 
@@ -91,10 +92,10 @@ def listeners(port):
     with contextlib.suppress(OSError):
         replies = [*said_of(port)]
         if ERROR not in dict(replies):
-            return {f"socket:[{struct.unpack_from('=I', it, 84)[0]}]" for kind, it in replies if kind == DIAG}
+            return {f"socket:[{struct.unpack_from('=I', data, 84)[0]}]" for kind, data in replies if kind == DIAG}
     # (a kernel without that has a table of all connections, also of those that ended within the last minute)
     with open("/proc/net/tcp") as file:
-        return {f"socket:[{it.split()[9]}]" for it in file if f":{port:04X} 00000000:0000 0A " in it}
+        return {f"socket:[{line.split()[9]}]" for line in file if f":{port:04X} 00000000:0000 0A " in line}
 
 
 def listens(port, server):

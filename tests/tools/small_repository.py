@@ -22,8 +22,8 @@ log = lambda what: open(f"{top}/log", "a").write(f"{what} {crate} {time.monotoni
 log("starts")
 open(f"{top}/words-{crate}", "w").write(" ".join(words[1:]))
 externs = [word.partition("=")[2] for at, word in enumerate(words) if words[at - 1] == "--extern"]
-lacking = [it for it in externs if "/rlibs/" not in it and not Path(it, "format").is_file()]
-time.sleep(float(dict(it.split("=") for it in os.environ["STAND_IN_SECONDS"].split()).get(crate, "0.2")))
+lacking = [folder for folder in externs if "/rlibs/" not in folder and not Path(folder, "format").is_file()]
+time.sleep(float(dict(word.split("=") for word in os.environ["STAND_IN_SECONDS"].split()).get(crate, "0.2")))
 while Path(top, f"holds-{crate}").exists():
     time.sleep(0.05)
 if lacking or Path(top, f"fails-{crate}").exists():

@@ -78,7 +78,7 @@ def of_process(pid, name):
 
 
 def strings(written):
-    return [os.fsdecode(it) for it in written.split(b"\0")[:-1]]
+    return [os.fsdecode(text) for text in written.split(b"\0")[:-1]]
 
 
 def become(pid, is_open, descriptors):
@@ -92,13 +92,13 @@ def become(pid, is_open, descriptors):
     streams.keep_closed()
     os.chdir(f"/proc/{pid}/cwd")
     os.environ.clear()
-    os.environ.update(it.split("=", 1) for it in strings(of_process(pid, "environ")) if "=" in it)
+    os.environ.update(pair.split("=", 1) for pair in strings(of_process(pid, "environ")) if "=" in pair)
     status = dict(line.split(":\t", 1) for line in of_process(pid, "status").decode().splitlines())
     os.umask(int(status["Umask"], 8))
-    for it in signal.Signals:
-        if int(status["SigIgn"], 16) >> (it - 1) & 1:
-            signal.signal(it, signal.SIG_IGN)
-    for name in (it for it in dir(resource) if it.startswith("RLIMIT_")):
+    for kind in signal.Signals:
+        if int(status["SigIgn"], 16) >> (kind - 1) & 1:
+            signal.signal(kind, signal.SIG_IGN)
+    for name in (limit for limit in dir(resource) if limit.startswith("RLIMIT_")):
         resource.setrlimit(getattr(resource, name), resource.prlimit(pid, getattr(resource, name)))
 
 

@@ -12,13 +12,13 @@ from typing import Any
 import parts
 
 ACCESS, SECRET, BUCKET = "test:tester", "testing", "archives"
-TOOLS = [f"swift-{it}-server" for it in ("proxy", "account", "container", "object")]
+TOOLS = [f"swift-{kind}-server" for kind in ("proxy", "account", "container", "object")]
 FILTERS = ("catch_errors gatekeeper healthcheck memcache listing_formats bulk s3api tempauth copy slo dlo symlink "
            "versioned_writes")
 RINGS = """
 import sys
 from swift.common.ring import RingBuilder
-for kind, port in (it.split("=") for it in sys.argv[2:]):
+for kind, port in (word.split("=") for word in sys.argv[2:]):
     made, port = RingBuilder(4, 1, 0), int(port)
     made.add_dev({"id": 0, "region": 1, "zone": 1, "weight": 1, "device": "one", "meta": "", "ip": "127.0.0.1",
                   "port": port, "replication_ip": "127.0.0.1", "replication_port": port})
@@ -44,10 +44,10 @@ class Swift:
         Path(f"{folder}/swift.conf").write_text(
             "[swift-hash]\nswift_hash_path_suffix = a\nswift_hash_path_prefix = b\n"
             "[storage-policy:0]\nname = one\ndefault = yes\n")
-        for it in ("account", "container", "object"):
-            Path(f"{folder}/{it}.conf").write_text(
-                f"{settings(folder, self.ports[f'swift-{it}-server'])}[pipeline:main]\npipeline = {it}-server\n"
-                f"[app:{it}-server]\nuse = egg:swift#{it}\n")
+        for kind in ("account", "container", "object"):
+            Path(f"{folder}/{kind}.conf").write_text(
+                f"{settings(folder, self.ports[f'swift-{kind}-server'])}[pipeline:main]\npipeline = {kind}-server\n"
+                f"[app:{kind}-server]\nuse = egg:swift#{kind}\n")
         self.rings()
         Path(f"{folder}/proxy.conf").write_text(self.proxy())
         self.url = f"http://127.0.0.1:{self.ports['swift-proxy-server']}"
@@ -83,6 +83,6 @@ class Swift:
         os.environ |= ENVIRONMENT
         with contextlib.ExitStack() as running:
             with ThreadPoolExecutor(4) as pool:
-                [*pool.map(lambda it: running.enter_context(it), self.running)]
+                [*pool.map(lambda part: running.enter_context(part), self.running)]
             self.client().create_bucket(Bucket=BUCKET)
             yield self

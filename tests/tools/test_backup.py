@@ -54,7 +54,7 @@ is-active)
   [ "$2" = --quiet ] || echo $state; [ $state = active ] ;;
 show) cat "$UNITS/memory" ;;
 stop) rm -f "$UNITS/$unit"; while [ -e "$UNITS/held" ]; do sleep 0.1; done ;;
-start) : >"$UNITS/$unit" ;;
+start) while [ -e "$UNITS/slow" ]; do sleep 0.1; done; : >"$UNITS/$unit" ;;
 esac
 """
 
@@ -120,7 +120,7 @@ class Store:
         return made
 
     def bytes(self):
-        return {it: Path(self.folder, it).read_bytes() for it in ("store.db", "store.db-wal")}
+        return {name: Path(self.folder, name).read_bytes() for name in ("store.db", "store.db-wal")}
 
 
 def asker(store):
@@ -139,9 +139,10 @@ def add(ask, name, text, user="ann"):
 
 def all_of(ask):
     """All that a server says of its store, archives included."""
-    lists = {it: ask("build", "GET", it) for it in ("/paths", "/roots", "/report", "/live", "/dead")}
+    lists = {target: ask("build", "GET", target) for target in ("/paths", "/roots", "/report", "/live", "/dead")}
     bases = [line.rpartition("/")[2] for line in lists["/paths"].splitlines()]
-    objects_of = {f"{it} {base}": ask("build", "GET", f"/{it}/{base}") for base in bases for it in ("info", "nar")}
+    objects_of = {f"{route} {base}": ask("build", "GET", f"/{route}/{base}")
+                  for base in bases for route in ("info", "nar")}
     return {**lists, **objects_of}
 
 
@@ -237,7 +238,7 @@ def test_a_copy_leaves_room(store, monkeypatch):
     """A store on the same disk goes on: 64 MB are left (docs/OPERATING.md, A full disk)."""
     free, blocks, real, to = [1 << 20], 1, os.statvfs, f"{store.to}/new.db"
     room = lambda: types.SimpleNamespace(f_blocks=blocks, f_frsize=4096, f_bavail=free[0])
-    monkeypatch.setattr(os, "statvfs", lambda it: room() if it == store.to else real(it))
+    monkeypatch.setattr(os, "statvfs", lambda path: room() if path == store.to else real(path))
     backup_file.copy(store.file, to)
     least = (os.stat(to).st_size + (64 << 20)) // 4096
     os.unlink(to)
@@ -288,8 +289,8 @@ def test_a_log_of_a_copy(is_read, folder, monkeypatch):
     rows = lambda: sqlite3.connect(path).execute("SELECT count(*) FROM t").fetchone()
     with contextlib.closing(sqlite3.connect(other)) as conn:
         conn.executescript("PRAGMA journal_mode = WAL; CREATE TABLE t (a); INSERT INTO t VALUES (1), (2);")
-        for it in ("", "-wal"):
-            shutil.copy(f"{other}{it}", f"{path}{it}")
+        for suffix in ("", "-wal"):
+            shutil.copy(f"{other}{suffix}", f"{path}{suffix}")
     with contextlib.closing(sqlite3.connect(path, timeout=0)) as reader:
         if is_read:
             reader.execute("BEGIN")
@@ -338,9 +339,9 @@ def test_a_new_file(folder):
     os.umask(before)
     assert os.stat(f"{folder}/new.db").st_mode & 0o777 == 0o600
     os.symlink("elsewhere", f"{folder}/link.db")
-    for it in ("new.db", "link.db"):
+    for name in ("new.db", "link.db"):
         with pytest.raises(FileExistsError):
-            backup_file.create(f"{folder}/{it}")
+            backup_file.create(f"{folder}/{name}")
     with contextlib.suppress(sqlite3.Error):
         backup_file.open_copy(f"{folder}/gone.db").execute("CREATE TABLE t (a)")
     assert sorted(os.listdir(folder)) == ["link.db", "new.db"]
@@ -368,12 +369,12 @@ def test_a_report_that_is_not_of_the_rows(report, folder, monkeypatch):
 @pytest.mark.parametrize("what", ["copy", "before-migration"])
 def test_a_store_that_changed_while_it_was_copied(what, folder, monkeypatch):
     """No copy is kept."""
-    found = iter([(1, 1), (2, 2)])
-    monkeypatch.setattr(backup_file, "rows", lambda _: next(found))
-    for it in ("explain", "test", "copy"):
-        monkeypatch.setattr(backup_file, it, lambda *_: (1, 1))
+    figures = iter([(1, 1), (2, 2)])
+    monkeypatch.setattr(backup_file, "rows", lambda _: next(figures))
+    for name in ("explain", "test", "copy"):
+        monkeypatch.setattr(backup_file, name, lambda *_: (1, 1))
     words = types.SimpleNamespace(db=f"{folder}/store.db", config=None, program="program", note=None)
-    next(found) if what == "copy" else None
+    next(figures) if what == "copy" else None
     with pytest.raises(Stop, match="the store has other objects"):
         backup_command.of_file(words, f"{folder}/new.db") if what == "copy" else backup_file.keep(words, 1)
 
@@ -406,7 +407,7 @@ FAILURES = [(Stop("failed: x", 3), 3, "failed: x"), (MemoryError(), 1, "failed: 
 def test_a_failure_of_a_copy(error, status, line, store, good, monkeypatch, capfd):
     """It is a line and a status, also in the state. The clock rings no more."""
     monkeypatch.setattr(backup_file, "copy", lambda *_: (_ for _ in ()).throw(error))
-    before = {it: signal.getsignal(it) for it in (signal.SIGALRM, signal.SIGHUP, signal.SIGTERM)}
+    before = {number: signal.getsignal(number) for number in (signal.SIGALRM, signal.SIGHUP, signal.SIGTERM)}
     mask = os.umask(0o077)
     words = [*store.options("copy"), "--db", store.file, "--to", store.to, "--state", store.state]
     try:
@@ -429,8 +430,8 @@ def test_a_copy_without_an_output(store):
 
 def test_a_log_of_a_copy_that_is_damaged(folder):
     """It is a line."""
-    for it in ("new.db", "new.db-wal"):
-        Path(folder, it).write_text("none")
+    for name in ("new.db", "new.db-wal"):
+        Path(folder, name).write_text("none")
     with pytest.raises(Stop, match="^failed: copy: .* is not a database$"):
         backup_file.fold(f"{folder}/new.db")
 
@@ -440,7 +441,8 @@ def at_work(words, is_begun, env=None):
     """nixkeep-backup, once it has begun something. A shell starts what goes on in the background without SIGINT, and
     nohup without SIGHUP, so the signals get their effects back."""
     words = ["env", "--default-signal=INT,HUP", BACKUP, *words]
-    with subprocess.Popen(words, stderr=subprocess.PIPE, text=True, env={**os.environ, **(env or {})}) as made:
+    with subprocess.Popen(words, stderr=subprocess.PIPE, text=True, env={**os.environ, **(env or {})},
+                          start_new_session=True) as made:
         while made.poll() is None and not is_begun():
             time.sleep(0.05)
         yield made
@@ -487,7 +489,7 @@ def test_which_copies_of_a_year_are_kept():
     # (2025-12-31 is a Wednesday: its week, and the Sundays of the twelve before)
     sundays = [datetime.date(2025, 12, 28) - datetime.timedelta(weeks=at) for at in range(12)]
     wanted = {*[f"2025-12-{day}" for day in range(25, 32)], *map(str, sundays)}
-    assert kept == sorted(f"{it}T03-00-00Z.db" for it in wanted)
+    assert kept == sorted(f"{day}T03-00-00Z.db" for day in wanted)
     many = [f"2025-12-31T{hour:02}-00-00Z.db" for hour in range(4, 24)]
     assert [*filter(backup_folder.time_of, ["2025-1-1T3-0-0Z.db", f"{DAILY[0]}\n", *DAILY[:1]])] == DAILY[:1]
     left = backup_folder.kept([*DAILY, *many])
@@ -498,8 +500,8 @@ def test_which_copies_of_a_year_are_kept():
 def copied_at(folder, monkeypatch, times):
     """Makes a copy at each of these times of the clock, and returns the names that are left."""
     monkeypatch.setattr(backup_folder, "sync", lambda _: None)
-    for it in times:
-        monkeypatch.setattr(time, "gmtime", lambda *_, it=it: it.timetuple())
+    for moment in times:
+        monkeypatch.setattr(time, "gmtime", lambda *_, moment=moment: moment.timetuple())
         name, _ = backup_folder.add(folder, lambda path: Path(path).touch())
         assert name in os.listdir(folder), "a copy isn't deleted by its own run"
     return sorted(os.listdir(folder))
@@ -514,7 +516,7 @@ def days_from(day, count):
 def test_copies_of_a_clock_that_was_wrong(wrong, folder, monkeypatch):
     """The copies of each day are kept as without those of the wrong clock: while it is wrong, and once it is right."""
     before, meanwhile, after = days_from(FIRST, 9), days_from(wrong, 9), days_from(FIRST + datetime.timedelta(18), 9)
-    names = lambda times: {it.strftime(backup_folder.FORM) for it in times}
+    names = lambda times: {moment.strftime(backup_folder.FORM) for moment in times}
     copied_at(folder, monkeypatch, before)
     assert names(meanwhile[-7:]) < {*copied_at(folder, monkeypatch, meanwhile)}
     assert names(after[-7:]) < {*copied_at(folder, monkeypatch, after)}
@@ -537,10 +539,10 @@ class Units:
         self.set()
 
     def set(self, *active, memory="infinity"):
-        for it in self.folder.glob("*@*"):
-            it.unlink()
-        for it in active:
-            (self.folder / it).touch()
+        for unit in self.folder.glob("*@*"):
+            unit.unlink()
+        for unit in active:
+            (self.folder / unit).touch()
         (self.folder / "memory").write_text(f"{memory}\n")
 
 
@@ -557,7 +559,7 @@ def test_a_check_of_a_server(store, units):
         for memory in ("infinity", str(1 << 30)):
             units.set(unit, memory=memory)
             assert of_unit() == (0, "", ""), f"a server with {memory}"
-        noted, report = (json.loads(note.read_text())[it] for it in ("version", "report"))
+        noted, report = (json.loads(note.read_text())[key] for key in ("version", "report"))
         assert noted == store_file.version(store.file)
         assert report.splitlines()[-1].split()[:2] == ["total", "6"]
         assert note.stat().st_mode & 0o777 == 0o600, "nobody else reads it"
@@ -583,6 +585,26 @@ def test_a_check_of_a_server(store, units):
 
 def fails_with(line, came):
     assert came[0] == 1 and line in came[2]
+
+
+def test_a_check_of_a_server_whose_unit_ends(store, units):
+    """It waits for it no longer: the unit's next start waits for that of the copy, so nobody would be answered."""
+    units.set(unit := "nixkeep@red.service")
+    with socket.create_server(("127.0.0.1", 0)) as listener:
+        place = f"http://127.0.0.1:{listener.getsockname()[1]}"
+        words = [*store.options("check"), "--db", store.file, "--server", place, "--unit", unit]
+        with at_work(words, lambda: True, units.env) as running:
+            asking = listener.accept()[0]
+            time.sleep(2)
+            assert running.poll() is None, "it waits while the unit runs"
+            (units.folder / unit).unlink()
+            try:
+                running.wait(60)
+            finally:
+                asking.close()
+            line = running.stderr.read()
+    said = f"nixkeep-backup: failed: unit: {unit} doesn't run, so nothing is copied\n"
+    assert (running.returncode, line) == (1, said)
 
 
 @pytest.mark.parametrize("unit, machine, swap, start, line", [
@@ -642,8 +664,8 @@ def test_what_is_in_the_place_of_a_running_store(what, owner, store):
     with servers.server(store.program, "--config", store.config, "--db", store.file) as port:
         words = [*store.options("check"), "--db", store.file, "--server", f"http://127.0.0.1:{port}", "--note", note]
         os.chown(store.folder, owner, owner)
-        for it in (store.file, f"{store.file}-wal"):
-            os.chown(it, owner, owner)
+        for file in (store.file, f"{store.file}-wal"):
+            os.chown(file, owner, owner)
         put, line = PLACED[what]
         with in_the_place(store.file, put):
             status, _, errors = backup(*words)
@@ -674,8 +696,8 @@ def test_a_look_without_an_end(monkeypatch):
     look = lambda: sqlite3.connect(":memory:").execute(endless).fetchone()
     assert as_owner.by_child(lambda: None, look) is None
     assert time.monotonic() - began < 20
-    for it in (lambda: 1 / 0, lambda: "no table", lambda: {"long": "x" * 100_000}):
-        assert as_owner.by_child(lambda: None, it) is None
+    for looked in (lambda: 1 / 0, lambda: "no table", lambda: {"long": "x" * 100_000}):
+        assert as_owner.by_child(lambda: None, looked) is None
 
 
 @pytest.mark.parametrize("text, line", [
@@ -734,21 +756,21 @@ def test_a_copy_through_a_server(store):
 
 def test_a_copy_through_a_server_leaves_room(store, monkeypatch):
     """As one of a file: at its beginning, and where others fill the disk meanwhile."""
-    real, asked, left = os.statvfs, [], 64 << 20
+    real, demands, left = os.statvfs, [], 64 << 20
     room = lambda free: types.SimpleNamespace(f_blocks=1, f_frsize=1, f_bavail=free)
-    monkeypatch.setattr(os, "statvfs", lambda it: room(frees[len(asked)]) if it == store.to else real(it))
+    monkeypatch.setattr(os, "statvfs", lambda path: room(frees[len(demands)]) if path == store.to else real(path))
     demand = disk_room.demand
-    monkeypatch.setattr(disk_room, "demand", lambda size, path: (demand(size, path), asked.append(size)))
+    monkeypatch.setattr(disk_room, "demand", lambda size, path: (demand(size, path), demands.append(size)))
     with servers.server(store.program, "--config", store.config, "--db", store.file) as port:
         server = http_client.Server(http_client.Place(f"http://127.0.0.1:{port}"), {"store-user": "build"})
         source = objects.Store(server, "build", "/nix/store")
         total = int(backup_file.TOTAL.search(asker(source)("build", "GET", "/report"))[2])
         for frees, count in (([left + total - 1], 0), ([left + total] * 2 + [left], 2), ([left + total] * 9, 7)):
-            asked.clear()
+            demands.clear()
             refused = pytest.raises(Stop, match=f"^failed: room: {store.to} has {frees[-1]} bytes left, too few")
             with refused if count < 7 else contextlib.nullcontext():
                 backup_fetch.fetch(source, store.program, {}, f"{store.to}/new{count}.db")
-            assert len(asked) == count and asked[0:1] == [total][:count]
+            assert len(demands) == count and demands[0:1] == [total][:count]
         source.close()
 
 
@@ -779,11 +801,11 @@ FIRST_PATH, SECOND_PATH = hidden("first"), hidden("second")
 
 def replace(ask, contents):
     """Imports an object anew with these contents, and one that refers to it, which stays as it is."""
-    there = [it for it in (SECOND_PATH, FIRST_PATH) if f"/{it}\n" in ask("build", "GET", "/paths")]
+    there = [base for base in (SECOND_PATH, FIRST_PATH) if f"/{base}\n" in ask("build", "GET", "/paths")]
     if there:
-        ask("build", "POST", "/delete", objects.lines(*[("path", it) for it in there]))
+        ask("build", "POST", "/delete", objects.lines(*[("path", base) for base in there]))
     for path, text, refs in ((FIRST_PATH, contents, []), (SECOND_PATH, b"second", [FIRST_PATH])):
-        pairs = [("path", path), ("nar-hash", nar_hash(archive(text))), *[("reference", it) for it in refs]]
+        pairs = [("path", path), ("nar-hash", nar_hash(archive(text))), *[("reference", ref) for ref in refs]]
         ask("build", "POST", "/import", objects.lines(*pairs) + archive(text))
 
 
@@ -825,8 +847,8 @@ def test_a_copy_of_a_store_that_changes(store):
             assert came[0] == 0 and not steps
             wanted = all_of_server(place)
             is_the_copy(store, wanted)
-            for it in store.copies():
-                os.unlink(f"{store.to}/{it}")
+            for name in store.copies():
+                os.unlink(f"{store.to}/{name}")
             with contextlib.closing(place.connection()) as connection:
                 replace(asker(objects.Store(http_client.Server(place, {}, connection=connection), "", "")), b"first!")
             # (the same number of bytes, which no listing shows; and another one, once it was copied)
@@ -886,8 +908,8 @@ def restored(store, good, units):
 def test_a_restore_from_what_is_no_copy_stops_nothing(store, restored, units):
     os.mkfifo(pipe := f"{store.folder}/pipe.db")
     copy, logged = f"{store.to}/{store.copies()[0]}", f"{store.folder}/logged.db"
-    for it in (logged, f"{logged}-wal"):
-        shutil.copy(copy, it)
+    for target in (logged, f"{logged}-wal"):
+        shutil.copy(copy, target)
     for file, line in ((store.damaged(), "hash isn't"), (f"{store.folder}/none.db", "No such file"),
                        (store.config, "not a database"), (pipe, "it is no file"), (store.folder, "it is no file"),
                        (of_later_schema(store), "made by a later version"), (logged, "a copy is one file")):
@@ -1004,18 +1026,18 @@ def test_a_restore_that_can_t_link(store, good, folder, monkeypatch):
     room, real = Path(folder, "room"), os.link
     room.mkdir()
     names = ["store.db-wal", "store.db-x"]
-    for it in names:
-        Path(room, it).write_text(it)
+    for file in names:
+        Path(room, file).write_text(file)
     fail = lambda name: (_ for _ in ()).throw(OSError(errno.EMLINK, "none")) if name == names[1] else None
     monkeypatch.setattr(os, "link", lambda name, *words, **more: fail(name) or real(name, *words, **more))
     with pytest.raises(Stop, match="^failed: restore: .*none$"):
         backup_restore.put(f"{store.to}/{store.copies()[0]}", str(room))
-    assert sorted(os.listdir(room)) == names and [os.stat(room / it).st_nlink for it in names] == [1, 1]
+    assert sorted(os.listdir(room)) == names and [os.stat(room / file).st_nlink for file in names] == [1, 1]
 
 
 def test_what_can_t_be_put_back(store, good, monkeypatch):
     """It stays in the other folder, and all else is back."""
-    real, tried = {it: getattr(os, it) for it in ("link", "listdir")}, []
+    real, tried = {name: getattr(os, name) for name in ("link", "listdir")}, []
 
     def link(name, *words, **more):
         tried.append(name)
@@ -1041,7 +1063,7 @@ def test_a_restore_leaves_room(store, good, monkeypatch):
     os.truncate(copy, 1 << 26)
     free = [(1 << 26) + (64 << 20) - 1]
     seen = lambda _: types.SimpleNamespace(f_blocks=1, f_frsize=1, f_bavail=free[0])
-    monkeypatch.setattr(os, "statvfs", lambda it: seen(it) if it == store.folder else real(it))
+    monkeypatch.setattr(os, "statvfs", lambda path: seen(path) if path == store.folder else real(path))
     with pytest.raises(Stop, match=f"^failed: room: {store.folder} has {free[0]} bytes left, too few"):
         backup_restore.put(copy, store.folder)
     assert store.bytes() == before and not [*Path(store.folder).glob("aside-*")]
@@ -1081,12 +1103,12 @@ def test_a_restore_from_a_copy_that_another_changes(what, store, restored, units
 
 def test_a_restore_of_another_store(store, restored, units):
     """A copy in the folder of another store's copies is refused, since whoever reads this store would read that one."""
-    green, red = (f"{store.folder}/nixkeep-backup/{it}" for it in ("green", "red"))
-    for it in (green, red):
-        shutil.copytree(store.to, it)
+    green, red = (f"{store.folder}/nixkeep-backup/{name}" for name in ("green", "red"))
+    for path in (green, red):
+        shutil.copytree(store.to, path)
     os.symlink(f"{green}/{store.copies()[0]}", f"{store.folder}/link.db")
-    for it in (f"{green}/{store.copies()[0]}", f"{store.folder}/link.db"):
-        fails_with("it is one of the store green", restored(it))
+    for path in (f"{green}/{store.copies()[0]}", f"{store.folder}/link.db"):
+        fails_with("it is one of the store green", restored(path))
     assert not units.notes.exists(), "and nothing is stopped"
     assert restored(f"{red}/{store.copies()[0]}")[0] == 0
 
@@ -1105,8 +1127,9 @@ def test_a_restore_of_a_store_that_is_stopped(store, restored, units):
     """It stays so, and the line says it."""
     units.set()
     status, output, errors = restored(f"{store.to}/{store.copies()[0]}")
-    assert status == 0 and output.endswith("; nixkeep@red.service didn't run, and isn't started\n"), (output, errors)
-    assert not any((units.folder / it).exists() for it in UNITS)
+    lines = "".join(f"; {unit} didn't run, and isn't started" for unit in (UNITS[2], UNITS[0]))
+    assert status == 0 and output.endswith(f"{lines}\n"), (output, errors)
+    assert not any((units.folder / unit).exists() for unit in UNITS)
 
 
 @pytest.mark.parametrize("name", ["-x", "a b", "a?b#c%41&mode=memory", "a\nb", "\x1b]0;title\x07", "\udcff", "'$(x)"])
@@ -1161,19 +1184,19 @@ def failing_at(patch, place, error):
             return real(*words, **more)
         return call
 
-    for it in ("open", "link", "unlink", "rename", "mkdir", "rmdir", "fchown", "fsync"):
-        patch.setattr(os, it, changed(getattr(os, it)))
+    for name in ("open", "link", "unlink", "rename", "mkdir", "rmdir", "fchown", "fsync"):
+        patch.setattr(os, name, changed(getattr(os, name)))
     return count
 
 
 @pytest.fixture
 def by_signals():
     """Signals end what is done here as they end a restore."""
-    before = {it: signal.getsignal(it) for it in stopping.ENDING}
+    before = {number: signal.getsignal(number) for number in stopping.ENDING}
     stopping.by_signals("restore")
     yield
-    for it, handler in before.items():
-        signal.signal(it, handler)
+    for number, handler in before.items():
+        signal.signal(number, handler)
 
 
 @pytest.mark.parametrize("error", [Stopped(), OSError(errno.EIO, "none"), signal.SIGTERM],
@@ -1188,8 +1211,8 @@ def test_a_restore_that_is_stopped(error, store, good, monkeypatch, by_signals):
     for place in itertools.count():
         room = Path(store.folder, f"room{place}")
         room.mkdir()
-        for it, data in was.items():
-            Path(room, it).write_bytes(data)
+        for name, data in was.items():
+            Path(room, name).write_bytes(data)
         Path(room, "store.db-x").symlink_to("none")
         Path(room, "store.db-y").mkdir()
         with monkeypatch.context() as patch, contextlib.suppress(Stopped, Stop):
@@ -1199,12 +1222,13 @@ def test_a_restore_that_is_stopped(error, store, good, monkeypatch, by_signals):
             break
         status, output, errors = listed(f"{room}/store.db")
         assert status == 3 or (status, output, errors) == wanted, place
-        link, made = ([at / it for at in (room, *room.glob("aside-*")) if os.path.lexists(at / it)]
-                      for it in ("store.db-x", "store.db-y"))
-        assert {os.readlink(it) for it in link} == {"none"} and made[0].is_dir() and len(made) == 1
+        link, made = ([at / name for at in (room, *room.glob("aside-*")) if os.path.lexists(at / name)]
+                      for name in ("store.db-x", "store.db-y"))
+        assert {os.readlink(file) for file in link} == {"none"} and made[0].is_dir() and len(made) == 1
         if status == 3:
             aside, = room.glob("aside-*")
-            assert {it: next(at / it for at in (aside, room) if (at / it).exists()).read_bytes() for it in was} == was
+            assert {name: next(at / name for at in (aside, room) if (at / name).exists()).read_bytes()
+            for name in was} == was
             refused += 1
     assert place > 10 and (0 < refused < 12 if isinstance(error, Stopped) else not refused)
 
@@ -1212,8 +1236,9 @@ def test_a_restore_that_is_stopped(error, store, good, monkeypatch, by_signals):
 def noted(patch):
     """What is done from now on: the syncs of files and folders, by their numbers and bytes, the names that are given,
     each with the same of the file and the number of its folder, and None for each name that is taken."""
-    notes, real = [], {it: getattr(os, it) for it in ("fsync", "rename", "link", "unlink", "mkdir")}
-    seen = lambda at, **how: (lambda it: (it.st_ino, 0 if stat.S_ISDIR(it.st_mode) else it.st_size))(os.stat(at, **how))
+    notes, real = [], {kind: getattr(os, kind) for kind in ("fsync", "rename", "link", "unlink", "mkdir")}
+    seen = lambda at, **how: (lambda status: (
+        status.st_ino, 0 if stat.S_ISDIR(status.st_mode) else status.st_size))(os.stat(at, **how))
 
     def sync(number):
         notes.append(seen(number))
@@ -1233,10 +1258,10 @@ def noted(patch):
         real["unlink"](name, **where)
         notes.append(None)
 
-    for it, call in {"fsync": sync, "mkdir": make, "unlink": take}.items():
-        patch.setattr(os, it, call)
-    for it in ("rename", "link"):
-        patch.setattr(os, it, functools.partial(give, it))
+    for kind, call in {"fsync": sync, "mkdir": make, "unlink": take}.items():
+        patch.setattr(os, kind, call)
+    for kind in ("rename", "link"):
+        patch.setattr(os, kind, functools.partial(give, kind))
     return notes
 
 
@@ -1247,14 +1272,14 @@ def test_what_has_a_name_is_on_the_disk(what, names, store, good, monkeypatch):
     monkeypatch.setattr(backup_restore, "PIECE", 1_000)
     copy, file = f"{store.to}/{store.copies()[0]}", f"{store.folder}/old.db"
     of_schema_1(file)
-    old = {os.stat(it).st_ino for it in (store.file, f"{store.file}-wal", file)}
+    old = {os.stat(path).st_ino for path in (store.file, f"{store.file}-wal", file)}
     run = {"copy": lambda: backup_folder.add(store.to, lambda path: backup_file.copy(store.file, path)),
            "restore": lambda: backup_restore.put(copy, store.folder),
            "before a migration": lambda: backup_file.before_migration(types.SimpleNamespace(db=file, config=None))}
     with monkeypatch.context() as patch:
         notes = noted(patch)
         run[what]()
-    given = [(at, *it) for at, it in enumerate(notes) if it and len(it) == 3]
+    given = [(at, *note) for at, note in enumerate(notes) if note and len(note) == 3]
     assert len(given) == names
     for at, number, size, folder in given:
         assert number in {None, *old} or (number, size) in notes[:at], "the file"
@@ -1274,9 +1299,9 @@ def test_a_copy_that_is_stopped(error, store, good, monkeypatch):
             break
         copies = {name: data for name, data in store.bytes_of_copies().items() if backup_folder.time_of(name)}
         assert good.items() <= copies.items() and len(copies) <= 2, place
-        for it in copies.keys() - good.keys():
-            assert backup_file.rows(f"{store.to}/{it}")[0] == 6
-            os.unlink(f"{store.to}/{it}")
+        for other in copies.keys() - good.keys():
+            assert backup_file.rows(f"{store.to}/{other}")[0] == 6
+            os.unlink(f"{store.to}/{other}")
         name, _ = made()
         assert sorted(store.copies()) == sorted([*good, name]), "and nothing else is left"
         os.unlink(f"{store.to}/{name}")
@@ -1301,13 +1326,50 @@ def test_a_restore_whose_terminal_is_lost(number, store, good, units):
     held.touch()
     # (the first unit is gone: a command of systemctl's that is killed before would remove it later)
     with at_work(words, lambda: not (units.folder / UNITS[0]).exists(), units.env) as running:
-        running.send_signal(number)
+        os.killpg(running.pid, number)
         time.sleep(0.5)
         held.unlink()
         line = running.stderr.read()
     assert (running.returncode, line) == ((130, "") if number == signal.SIGINT else (
         1, f"nixkeep-backup: failed: restore: it was stopped by {number.name}\n"))
-    assert all((units.folder / it).exists() for it in UNITS) and store.bytes() == before
+    assert all((units.folder / unit).exists() for unit in UNITS) and store.bytes() == before
+
+
+@pytest.mark.parametrize("number", [signal.SIGHUP, signal.SIGTERM, signal.SIGINT])
+@pytest.mark.parametrize("at", UNITS)
+def test_a_terminal_that_is_lost_while_units_start(at, number, store, good, units):
+    """All that runs in a terminal gets the signal, and once more from its shell. Each unit that ran is started."""
+    units.set(*UNITS)
+    words = [*store.options("restore"), "--folder", store.folder, "red", f"{store.to}/{store.copies()[0]}"]
+    command = units.folder / "bin/systemctl"
+    slow = f'[ "$1 $unit" != "start {at}" ] || touch "$UNITS/slow" "$UNITS/begun"\ncase $1 in'
+    command.write_text(SYSTEMCTL.replace("case $1 in", slow))
+    with at_work(words, (units.folder / "begun").exists, units.env) as running:
+        for _ in range(2):
+            os.killpg(running.pid, number)
+            time.sleep(0.2)
+        command.write_text(SYSTEMCTL)
+        (units.folder / "slow").unlink()
+        line = running.stderr.read()
+    assert (running.returncode, line) == (0, "")
+    assert [unit for unit in UNITS if not (units.folder / unit).exists()] == []
+
+
+def test_a_unit_that_does_not_start_after_a_restore(store, restored, units):
+    """The timer of the copies is started all the same, and the line says which unit failed."""
+    command, fails = units.folder / "bin/systemctl", f'[ "$1 $unit" != "start {UNITS[2]}" ] || exit 1\ncase $1 in'
+    command.write_text(SYSTEMCTL.replace("case $1 in", fails))
+    fails_with("failed: unit: status 1", restored(f"{store.to}/{store.copies()[0]}"))
+    assert [unit for unit in UNITS if not (units.folder / unit).exists()] == [UNITS[2]]
+
+
+@pytest.mark.parametrize("number", [*stopping.ENDING])
+def test_signals_that_come_again(number, by_signals):
+    """One ends what is done; those after it don't end what is tidied up."""
+    with pytest.raises(Stop, match=number.name):
+        signal.raise_signal(number)
+    for ending in stopping.ENDING:
+        signal.raise_signal(ending)
 
 
 @pytest.mark.skipif(os.geteuid() != 0, reason="only root starts and stops units")
@@ -1317,14 +1379,14 @@ def test_a_restore_while_another_one_stops_units(store, restored, units):
     held.touch()
     with concurrent.futures.ThreadPoolExecutor() as pool:
         first = pool.submit(restored, copy)
-        while not units.notes.exists() or "stop" not in (asked := units.notes.read_text()):
+        while not units.notes.exists() or "stop" not in (calls := units.notes.read_text()):
             time.sleep(0.1)
         second = pool.submit(restored, copy)
         concurrent.futures.wait([second], 20)
         was_asked = units.notes.read_text()
         held.unlink()
         fails_with("another restore is running", second.result())
-        assert (first.result()[0], was_asked) == (0, asked)
+        assert (first.result()[0], was_asked) == (0, calls)
 
 
 def test_a_restore_below_a_server_that_is_none_of_the_units(store, restored, units):
@@ -1335,14 +1397,14 @@ def test_a_restore_below_a_server_that_is_none_of_the_units(store, restored, uni
         place = http_client.Place(f"http://127.0.0.1:{port}")
         wanted, seen = all_of_server(place), os.stat(store.file)
         refused(store.file)
-        assert all((units.folder / it).exists() for it in UNITS)
+        assert all((units.folder / unit).exists() for unit in UNITS)
         os.rename(store.file, moved)
         refused(log)
         os.rename(moved, store.file)
         assert (all_of_server(place), os.stat(store.file).st_ino) == (wanted, seen.st_ino)
     with store_file.open_store(store.file):
         refused(store.file)
-    assert not [it for it in os.listdir(store.folder) if it.startswith(("aside-", "store.new"))]
+    assert not [name for name in os.listdir(store.folder) if name.startswith(("aside-", "store.new"))]
     assert restored(copy)[0] == 0
 
 
@@ -1370,18 +1432,18 @@ def test_a_restore_of_what_a_service_has_left(names, store, restored):
     """Folders in the place of files are moved away as files are, and links as links."""
     with store.opened() as ask:
         wanted = all_of(ask)
-    for it in names:
+    for entry in names:
         with contextlib.suppress(FileNotFoundError):
-            os.unlink(f"{store.folder}/{it}")
-        os.makedirs(f"{store.folder}/{it}/more")
+            os.unlink(f"{store.folder}/{entry}")
+        os.makedirs(f"{store.folder}/{entry}/more")
     links = {"store.db-link": store.config, "store.db-none": "none", "store.db-folder": store.to}
-    for it, to in links.items():
-        os.symlink(to, f"{store.folder}/{it}")
+    for entry, to in links.items():
+        os.symlink(to, f"{store.folder}/{entry}")
     status, output, errors = restored(f"{store.to}/{store.copies()[0]}")
     assert (status, errors) == (0, "") and output.startswith("restored 6 objects, ")
     aside, = Path(store.folder).glob("aside-*")
     assert all((aside / name / "more").is_dir() for name in names)
-    assert {it: os.readlink(aside / it) for it in links} == links and os.stat(store.config).st_nlink == 1
+    assert {entry: os.readlink(aside / entry) for entry in links} == links and os.stat(store.config).st_nlink == 1
     with store.opened() as ask:
         assert all_of(ask) == wanted
 
@@ -1452,8 +1514,8 @@ def test_the_environment_of_another(tool, store, good):
     place.mkdir()
     (place / "python3").write_text(f"#!/bin/sh\ntouch {place}/ran\n")
     (place / "python3").chmod(0o755)
-    for it in ("argparse.py", "sqlite3.py", "sitecustomize.py"):
-        (place / it).write_text(f"open('{place}/ran', 'w')\n")
+    for name in ("argparse.py", "sqlite3.py", "sitecustomize.py"):
+        (place / name).write_text(f"open('{place}/ran', 'w')\n")
     env = {"PATH": f"{place}:{os.environ['PATH']}", "PYTHONPATH": str(place)}
     words = {"nixkeep-backup": [*store.options("copy"), "--db", store.file, "--to", store.to],
              "nixkeep-explain": [store.file]}
@@ -1462,7 +1524,8 @@ def test_the_environment_of_another(tool, store, good):
 
 
 @pytest.mark.parametrize("words", ["", "copy", "copy --db a", "fetch", "restore red", "nope", "check --db a",
-                                   *(f"copy --db a --to b --seconds {it}" for it in ("0", "-1", "99999999999", "x"))])
+                                   *(f"copy --db a --to b --seconds {text}"
+                                     for text in ("0", "-1", "99999999999", "x"))])
 def test_usage_errors(words):
     status, output, errors = backup(*words.split())
     assert status == 2 and not output and errors.startswith("usage: ")

@@ -56,15 +56,16 @@ def measured():
 @pytest.fixture
 def slow(measured):
     """The times of these, each of which is three times as long."""
-    times = [it for of in measured.values() for it in of["figures"] if "value" in it and compared.is_of_machine(it)]
-    for it in times:
-        it["value"] *= 1 / 3 if it["unit"] in compared.RATES else 3
+    times = [figure for of in measured.values() for figure in of["figures"]
+             if "value" in figure and compared.is_of_machine(figure)]
+    for figure in times:
+        figure["value"] *= 1 / 3 if figure["unit"] in compared.RATES else 3
     return times
 
 
 def ratios(measured):
     """By how much the figures that are warned of are more."""
-    return sorted(it.rpartition(": ")[2].split()[0] for it in compared.warnings(measured, STORED))
+    return sorted(line.rpartition(": ")[2].split()[0] for line in compared.warnings(measured, STORED))
 
 
 def test_no_warning_of_the_same_figures(measured):
@@ -82,7 +83,8 @@ def test_no_warning_of_a_time_that_is_10_percent_more(measured, slow):
 
 def test_warnings_of_others_that_are_more(measured, slow):
     slow[0]["value"] *= 1.1 * 1.4
-    next(it for it in slow if it["unit"] in compared.RATES)["value"] /= 1.7
-    peers = [it for of in measured.values() for it in of["figures"] if it.get("ratio")]
-    next(it for it in peers if it["unit"] not in compared.RATES and "least" not in (it["limit"] or ""))["ratio"] *= 1.3
+    next(figure for figure in slow if figure["unit"] in compared.RATES)["value"] /= 1.7
+    peers = [figure for of in measured.values() for figure in of["figures"] if figure.get("ratio")]
+    next(figure for figure in peers
+         if figure["unit"] not in compared.RATES and "least" not in (figure["limit"] or ""))["ratio"] *= 1.3
     assert ratios(measured) == ["1.30", "1.54", "1.70"]

@@ -56,7 +56,8 @@ class Site:
 
     def __init__(self, server, cache):
         self.server, self.cache, self.port = server, cache, cache.place
-        self.ann, self.build, self.eve, self.nobody = (Client(self.port, it) for it in ("ann", "build", "eve", None))
+        self.ann, self.build, self.eve, self.nobody = (Client(self.port, user)
+                                                       for user in ("ann", "build", "eve", None))
 
     def add(self, name, contents):
         """Adds a text: its path."""
@@ -147,8 +148,8 @@ def test_own_requests_of_the_store(site, path):
     assert ann("POST", "/profile/ann/tools", given) == (200, b"generation 1\n")
     assert ann("POST", "/root/permanent/it", given) == (403, b"denied: trusted-permanent-root\n")
     assert ann("DELETE", "/paths") == (405, b"refused: 40 bad-method\n")
-    assert [it("GET", "/who") for it in (ann, site.build)] == [
-        (200, f"class: {it}\nconnect: yes\n".encode()) for it in ("allowed", "trusted")]
+    assert [client("GET", "/who") for client in (ann, site.build)] == [
+        (200, f"class: {kind}\nconnect: yes\n".encode()) for kind in ("allowed", "trusted")]
     assert ann("POST", "/text", bytes(20_971_521)) == (400, b"refused: 38 too-large\n")
     assert ann("GET", "/info/%61")[1] == b"refused: 14 bad-store-path\n", "a target passes as it is"
 
@@ -179,7 +180,7 @@ def test_archives_are_compressed_where_that_saves_something(name, site):
     assert ann("GET", target, None, "-H", f'if-none-match: "{target[5:57]}-zstd"')[0] == 200, (
         "the tag of what is compressed isn't that of the archive")
     if packed is not None:
-        assert [it for it in ACCEPTED if sizes[it] < 2000] == packed
+        assert [accepted for accepted in ACCEPTED if sizes[accepted] < 2000] == packed
         assert packed or sizes["zstd"] == sizes[""], "what doesn't get smaller isn't compressed"
 
 
@@ -303,19 +304,19 @@ def test_what_waits_is_bounded(server, folder):
     """In number, bytes and time; one user has half of what others leave."""
     limits = ["--waiting-count", "4", "--waiting-bytes", "100000"]
     put = lambda who, data: who("PUT", f"/nar/{file_name(data)}", data)[0]
-    names = lambda: [it for it in Path(folder, "waiting").iterdir() if ".nar" in it.name]
+    names = lambda: [file for file in Path(folder, "waiting").iterdir() if ".nar" in file.name]
     with parts.cache(folder, server.place, None, "--proxied", *limits) as small:
-        ann, bob, build = (Client(small.place, it) for it in ("ann", "bob", "build"))
+        ann, bob, build = (Client(small.place, user) for user in ("ann", "bob", "build"))
         rng = random.Random("bounds")
         alone = [build.upload(some_path(rng, f"alone{at}"), nar.archive(bytes([at, at])))[0] for at in range(6)]
         assert alone == [200] * 6, "one user alone uploads more objects than may wait"
-        assert [put(ann, it) for it in (b"1", b"2", b"3")] == [201, 201, 503], "a third has no room"
+        assert [put(ann, data) for data in (b"1", b"2", b"3")] == [201, 201, 503], "a third has no room"
         assert put(bob, b"4") == 201, "another user has"
         assert put(bob, bytes(50_001)) == 503, "but not for half of the bytes"
         assert len(names()) == 4, "three wait on the disk, and one that is in the store"
         small.end()
-        for it in names():
-            os.utime(it, (time.time() - 3601,) * 2)
+        for file in names():
+            os.utime(file, (time.time() - 3601,) * 2)
         small.start()
         assert [put(ann, b"3"), put(ann, b"5")] == [201, 201], "once the time is over there is room again"
         assert len(names()) == 2, "and the old ones are gone"
@@ -337,9 +338,9 @@ def test_many_clients_at_once(site):
     assert site.build.upload(large, archive)[0] == 200, "an archive of 300 KB"
     with contextlib.ExitStack() as slow, concurrent.futures.ThreadPoolExecutor(16) as pool:
         head = "host: a\r\nstore-user: ann\r\n"
-        for it in [f"GET /nar/{large[11:]} HTTP/1.1\r\n{head}\r\n"] * 3 + [
+        for request in [f"GET /nar/{large[11:]} HTTP/1.1\r\n{head}\r\n"] * 3 + [
                 f"POST /text HTTP/1.1\r\n{head}content-length: 1000\r\n\r\nname: "]:
-            slow.enter_context(socket.create_connection(place)).sendall(it.encode())
+            slow.enter_context(socket.create_connection(place)).sendall(request.encode())
         records = [*pool.map(lambda _: ann("GET", f"/{large[11:43]}.narinfo")[0], range(64))]
         assert records == [200] * 64, "64 records for 16 clients, while three read nothing and one sends half a body"
         whole = [*pool.map(lambda _: ann("GET", f"/nar/{large[11:]}")[1] == archive, range(8))]
@@ -348,7 +349,7 @@ def test_many_clients_at_once(site):
         time.sleep(0.1)
         site.server.end(signal.SIGKILL)
         site.server.start()
-        kept = [it.result() for it in running]
+        kept = [future.result() for future in running]
     assert {status for status, _ in kept} == {200}, "each add is answered"
     assert {text.strip() for _, text in kept} <= {*ann("GET", "/paths")[1].split()}, "and each is there"
 
@@ -398,8 +399,8 @@ def test_a_closure_by_nix(compression, fixed, folder):
     there("nix", "copy", "--from", f"{fixed}?trusted=true", made[-1])
     here.run("nix-store", "--delete", made[-1])
     here("nix", "copy", "--from", f"{fixed}?trusted=true", made[-1])
-    assert all(there.archive(it) == here.archive(it) for it in made)
-    assert all(there.references(it) == here.references(it) for it in made)
+    assert all(there.archive(stored) == here.archive(stored) for stored in made)
+    assert all(there.references(stored) == here.references(stored) for stored in made)
 
 
 @needs_nix

@@ -13,7 +13,7 @@ from pathlib import Path
 import pytest
 
 import parts
-from nixkeep_tools import cache_at_once, cache_fair, cache_server
+from nixkeep_tools import cache_at_once, cache_ending, cache_fair, cache_server
 from tests.tools.cached import CONFIG, ask, text
 
 pytestmark = pytest.mark.needs("curl", "python3-aiohttp")
@@ -78,13 +78,13 @@ def answers(place, pieces, before=b""):
             # (else two pieces may come as one)
             parts.until("it is read", lambda: is_read(client))
         # (what is left of a request takes the last one as its own, in both ways)
-        found = b""
+        data = b""
         with contextlib.suppress(OSError):
             client.sendall(LAST)
         with contextlib.suppress(OSError):
             while piece := client.recv(65_536):
-                found += piece
-    return re.sub(rb"Date: [^\r]*\r\n", b"", found)
+                data += piece
+    return re.sub(rb"Date: [^\r]*\r\n", b"", data)
 
 
 def is_read(client):
@@ -110,7 +110,7 @@ def test_answers_are_those_of_aiohttp(program, folder, words):
     differ = {}
     with stores(program, folder, *words) as (cache, record):
         for name, pieces in HEADS.items():
-            pieces = [it.replace("RECORD", record).encode("latin-1") for it in pieces]
+            pieces = [piece.replace("RECORD", record).encode("latin-1") for piece in pieces]
             came = [answers(cache.place, pieces, before) for before in (b"", OTHER)]
             assert came[0], name
             if came[0] != came[1]:
@@ -141,14 +141,17 @@ class Other:
     """The protocol that a connection is passed on to: it notes what is called."""
 
     def __init__(self):
-        self.told = []
+        self.called = []
 
     def __getattr__(self, name):
-        return lambda *_: self.told.append(name)
+        return lambda *_: self.called.append(name)
 
 
 class Replies:
     """Answers `a` at once, and with `b` ends the connection."""
+
+    def __init__(self):
+        self.ending = cache_ending.Ending()
 
     def reply(self, data: bytes) -> tuple[bytes, bool] | None:
         return {b"a": (b"A", False), b"b": (b"B", True)}.get(data)
@@ -164,14 +167,14 @@ def test_a_connection_is_passed_on():
     """With the first request that isn't answered at once."""
     async def run():
         made, transport = connected()
-        for it in (b"a", b"a", b"?"):
-            made.data_received(it)
+        for data in (b"a", b"a", b"?"):
+            made.data_received(data)
         ending, at_the_end = connected()
         ending.data_received(b"b")
         return transport, at_the_end
 
     first, ending = asyncio.run(run())
-    assert (first.done, first.other.told) == ([b"A", b"A"], ["connection_made", "data_received"])
+    assert (first.done, first.other.called) == ([b"A", b"A"], ["connection_made", "data_received"])
     assert (ending.done, ending.other) == ([b"B", "closed"], None)
 
 
@@ -179,7 +182,7 @@ def test_nothing_is_read_of_a_client_that_reads_nothing():
     """What it sends stays outside of the memory, and is answered once it reads."""
     long, count, came = bytes(60_000), 100, []
 
-    class Long:
+    class Long(Replies):
         def reply(self, data):
             came.append(data)
             return len(data) * long, False
@@ -221,11 +224,12 @@ def test_an_idle_connection_is_closed(monkeypatch):
 
 
 @pytest.mark.parametrize("change, is_answered", [
-    (lambda it: None, True), (lambda it: it.fair.running.update({"ann": 1}), True),
-    (lambda it: it.fair.running.update({"ann": 2}), False), (lambda it: it.ending.begun.set(), False),
-    (lambda it: it.server.denials.clear(), False), (lambda it: it.server.denials.update({ANN: "denied"}), False),
-    (lambda it: setattr(it.archives, "text", None), False),
-    (lambda it: setattr(it.archives, "text", bytes(70_000)), False),
+    (lambda made: None, True), (lambda made: made.fair.running.update({"ann": 1}), True),
+    (lambda made: made.fair.running.update({"ann": 2}), False), (lambda made: made.ending.begun.set(), False),
+    (lambda made: made.server.denials.clear(), False),
+    (lambda made: made.server.denials.update({ANN: "denied"}), False),
+    (lambda made: setattr(made.archives, "text", None), False),
+    (lambda made: setattr(made.archives, "text", bytes(70_000)), False),
 ])
 def test_what_is_answered_at_once(change, is_answered):
     """What may be answered, as far as that is known, to a user who has a request left, and before the end."""
@@ -240,6 +244,6 @@ def test_what_is_answered_at_once(change, is_answered):
         made = cache_at_once.AtOnce(lambda _: ANN, server, archives, watching, fair, ending)
         change(made)
         reply = made.reply(f"GET /{'1' * 32}.narinfo HTTP/1.1\r\nhost: red\r\n\r\n".encode())
-        return bool(reply), [(it.route, it.status, it.sent, it.request["caller"]) for it in seen]
+        return bool(reply), [(entry.route, entry.status, entry.sent, entry.request["caller"]) for entry in seen]
 
     assert asyncio.run(run()) == (is_answered, [("record", 200, 4, ANN)] if is_answered else [])

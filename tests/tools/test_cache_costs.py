@@ -66,12 +66,12 @@ def test_no_listing_of_what_comes_meanwhile_fills_the_memory():
     async def ask(*_):
         return replies.pop()
 
-    class Asked(dict):
+    class Request(dict):
         raw_path, method, transport = f"/ls/{'1' * 32}-it", "GET", types.SimpleNamespace(is_closing=lambda: False)
 
-    asked = Asked(caller=cache_server.Caller("ann", None))
+    request = Request(caller=cache_server.Caller("ann", None))
     with pytest.raises(cache_http.Answered, match="not-valid") as answered:
-        asyncio.run(cache_listings.Listings(types.SimpleNamespace(ask=ask)).demand(asked))
+        asyncio.run(cache_listings.Listings(types.SimpleNamespace(ask=ask)).demand(request))
     assert answered.value.reply.status == 404 and not replies, "the server isn't asked for the listing then"
 
 
@@ -92,54 +92,55 @@ def test_long_records_hold_up_nobody_else(unit):
     with unit() as store:
         assert ask(store.place, "bob", "GET", "/nix-cache-info")[0] == 200, "a first request"
         tasks = [threading.Thread(target=send, args=[store.place]) for _ in range(60)]
-        for it in tasks:
-            it.start()
+        for task in tasks:
+            task.start()
         parts.until("a reply", lambda: replies)
         before = len(replies)
         assert {ask(store.place, "bob", "GET", "/nix-cache-info")[0] for _ in range(8)} == {200}, "another is answered"
         assert len(replies) - before < 30, "before most of them are read"
-        for it in tasks:
-            it.join()
+        for task in tasks:
+            task.join()
     assert {*replies} == {b"HTTP/1.1 400 Bad Request"}, "all of them are answered"
 
 
 def test_unknown_records_cause_one_listing():
     """All who ask for unknown paths at once, as after a restart, wait for one listing of all paths."""
-    asked, replies = [], []
+    requests, replies = [], []
 
     class Server:
         connections = 1
 
         async def ask(self, *request):
-            asked.append(request)
+            requests.append(request)
             await asyncio.sleep(0.01)
             return cache_server.Reply(*replies.pop())
 
     async def run(every, count):
         names = cache_names.Names(Server(), every)
         for _ in range(count):
-            found = await asyncio.gather(*(names.base(cache_server.Caller(it, None), f"{1:032}") for it in "abcdefgh"))
-        return found
+            bases = await asyncio.gather(*(names.base(cache_server.Caller(user, None), f"{1:032}")
+                                           for user in "abcdefgh"))
+        return bases
 
     replies += [(200, "text/plain", f"/nix/store/{1:032}-x\n".encode())]
-    assert asyncio.run(run(30, 3)) == [(f"{1:032}-x", None)] * 8 and len(asked) == 1, "one that is there"
+    assert asyncio.run(run(30, 3)) == [(f"{1:032}-x", None)] * 8 and len(requests) == 1, "one that is there"
     replies += [(200, "text/plain", b"")]
-    assert asyncio.run(run(30, 3)) == [(None, None)] * 8 and len(asked) == 2, "one that isn't"
+    assert asyncio.run(run(30, 3)) == [(None, None)] * 8 and len(requests) == 2, "one that isn't"
     replies += [(200, "text/plain", b"")] * 3
-    assert asyncio.run(run(0, 3)) == [(None, None)] * 8 and len(asked) == 5, "each time when it is old"
+    assert asyncio.run(run(0, 3)) == [(None, None)] * 8 and len(requests) == 5, "each time when it is old"
     replies += [(200, "text/plain", b""), (503, "text/plain", b"failed: memory\n")]
     assert asyncio.run(run(30, 2)) == [(None, None)] * 8, "one that fails is tried again"
-    assert len(asked) == 7
+    assert len(requests) == 7
 
 
 def test_listings_of_all_paths_are_made_one_at_a_time():
     """Each may have hundreds of MB. So the next one is made once there is room for the last one, and is it alone that
     waits for its own."""
-    asked, sending = [], cache_http.Sending(1_000_000, 60)
+    users, sending = [], cache_http.Sending(1_000_000, 60)
 
     class Server:
         async def ask(self, caller, *_):
-            asked.append(caller.user)
+            users.append(caller.user)
             return cache_server.Reply(200, "text/plain", bytes(900_000))
 
     class Listed(dict):
@@ -148,20 +149,20 @@ def test_listings_of_all_paths_are_made_one_at_a_time():
 
     async def run():
         passing = cache_passing.Passing(Server(), None, None, None, None, sending, [], 60)
-        callers = [cache_server.Caller(it, None) for it in ["ann"] * 5 + ["bob"]]
-        requests, counts = [Listed(caller=it) for it in callers], []
-        replies = [asyncio.ensure_future(passing.replied(it, cache_server.Request(it["caller"], "GET", "/paths")))
-                   for it in requests]
+        callers = [cache_server.Caller(user, None) for user in ["ann"] * 5 + ["bob"]]
+        requests, counts = [Listed(caller=caller) for caller in callers], []
+        replies = [asyncio.ensure_future(
+            passing.replied(request, cache_server.Request(request["caller"], "GET", "/paths"))) for request in requests]
         for _ in range(3):
             await asyncio.sleep(0.05)
-            counts.append((len(asked), sum(reply.done() for reply in replies)))
+            counts.append((len(users), sum(reply.done() for reply in replies)))
             sending.give(next(request["room"] for request in requests if request.get("room") in sending.held))
-        for it in replies:
-            it.cancel()
+        for reply in replies:
+            reply.cancel()
         return counts
 
     assert asyncio.run(run()) == [(2, 1), (3, 2), (4, 3)]
-    assert asked[:4].count("bob") == 1, "another user is among the first"
+    assert users[:4].count("bob") == 1, "another user is among the first"
 
 
 LONG = b"%s /nix/store/0-x\n" % (b"x" * 4500)
@@ -173,7 +174,7 @@ LONG = b"%s /nix/store/0-x\n" % (b"x" * 4500)
 def test_many_objects_or_roots(objects, roots, refused, monkeypatch):
     """The overview of a store with many objects reads none of them, and neither are many roots read. Those that are
     read hold up nobody."""
-    asked, threads, read = [], [], overview_source.root
+    targets, threads, read = [], [], overview_source.root
     listed = b"".join(b"/nix/store/%032d-x\n" % at for at in range(objects))
     replies = {"/paths": listed, "/roots": roots, "/live": b""}
 
@@ -181,15 +182,16 @@ def test_many_objects_or_roots(objects, roots, refused, monkeypatch):
         connections = 1
 
         async def ask(self, _, __, target):
-            asked.append(target)
+            targets.append(target)
             return cache_server.Reply(200, "text/plain", replies[target])
 
         async def gets(self, *_):
-            for it in ():
-                yield it
+            for nothing in ():
+                yield nothing
 
     monkeypatch.setattr(cache_overview, "LINES", 10)
-    monkeypatch.setattr(overview_source, "root", lambda *it: threads.append(threading.current_thread()) or read(*it))
+    monkeypatch.setattr(overview_source, "root",
+                        lambda *words: threads.append(threading.current_thread()) or read(*words))
     overviews = cache_overview.Overviews(Server(), "/nix/store", (False, True), None, None)
     make = lambda: asyncio.run(overviews.make(cache_server.Caller("ann", None)))
     if not refused:
@@ -198,7 +200,7 @@ def test_many_objects_or_roots(objects, roots, refused, monkeypatch):
         return
     with pytest.raises(cache_http.Answered, match=f"the overview of {refused}") as answered:
         make()
-    assert (answered.value.reply.status, asked) == (503, ["/paths", "/roots"][:1 + bool(roots)])
+    assert (answered.value.reply.status, targets) == (503, ["/paths", "/roots"][:1 + bool(roots)])
     assert not threads
 
 
@@ -251,10 +253,10 @@ def test_heads_of_large_imports_have_room(folder):
 
     async def run():
         large.passing = types.SimpleNamespace(coming=cache_room.Room(6 * cache_large.HEAD), idle=60)
-        tasks = [asyncio.ensure_future(ask(it)) for it in ["ann"] * 5 + ["build"] * 9]
+        tasks = [asyncio.ensure_future(ask(user)) for user in ["ann"] * 5 + ["build"] * 9]
         await asyncio.sleep(0.2)
-        for it in tasks:
-            it.cancel()
+        for task in tasks:
+            task.cancel()
 
     kept, cache_large.class_of = cache_large.class_of, class_of
     try:
@@ -291,10 +293,10 @@ def test_heads_of_uploads_that_wait_have_room():
     async def run():
         large.passing = types.SimpleNamespace(coming=cache_room.Room(8 * cache_large.HEAD), idle=60)
         large.import_pieces, large.demand_trust = waits, trusts
-        tasks = [asyncio.ensure_future(large.import_(Request(it))) for it in ["ann"] * 20 + ["bob"]]
+        tasks = [asyncio.ensure_future(large.import_(Request(user))) for user in ["ann"] * 20 + ["bob"]]
         await asyncio.sleep(0.5)
-        for it in tasks:
-            it.cancel()
+        for task in tasks:
+            task.cancel()
 
     asyncio.run(run())
     assert (going_on.count("ann"), going_on.count("bob")) == (4, 1)
@@ -321,19 +323,19 @@ def test_a_user_leaves_room_for_others():
         for user, is_safe in (("ann", True), ("bob", False), ("carol", True), ("dora", True)):
             tasks += [asyncio.ensure_future(holds(user, is_safe)) for _ in range(9)]
             await asyncio.sleep(0.05)
-            counts.append(sum(it.user == user for it in room.held))
-        for it in room.held:
-            it.began = it.since = it.since - 60
+            counts.append(sum(held.user == user for held in room.held))
+        for held in room.held:
+            held.began = held.since = held.since - 60
         await asyncio.sleep(1.2 * cache_room.LOOK)
-        for it in tasks:
-            it.cancel()
+        for task in tasks:
+            task.cancel()
         return counts
 
     assert asyncio.run(run()) == [4, 2, 1, 1]
     assert {*aborted} == {"bob"}
 
 
-class Asked(dict):
+class Request(dict):
     """A request, whose client may have left."""
 
     def __init__(self, user, is_gone=False):
@@ -354,17 +356,17 @@ def test_nothing_waits_for_a_client_that_has_left(monkeypatch):
             left.append(size)
 
     async def run():
-        tasks = [asyncio.ensure_future(holds(Asked("bob"), 6))]
+        tasks = [asyncio.ensure_future(holds(Request("bob"), 6))]
         await asyncio.sleep(0)
         room.held[0].began = room.held[0].since = -60
-        tasks += [asyncio.ensure_future(holds(Asked("ann", True), 4)) for _ in range(20)]
-        tasks += [asyncio.ensure_future(holds(Asked("carl"), 5))]
+        tasks += [asyncio.ensure_future(holds(Request("ann", True), 4)) for _ in range(20)]
+        tasks += [asyncio.ensure_future(holds(Request("carl"), 5))]
         await asyncio.sleep(0.05)
-        lost = [it.user for it in room.held if it.is_lost]
+        lost = [held.user for held in room.held if held.is_lost]
         await asyncio.sleep(0.2)
-        waiting = [it.user for user in room.waiting.values() for it in user]
-        for it in tasks:
-            it.cancel()
+        waiting = [wanted.user for user in room.waiting.values() for wanted in user]
+        for task in tasks:
+            task.cancel()
         return lost, waiting
 
     assert asyncio.run(run()) == (["bob"], ["carl"]), "the one that is there gets its room"
@@ -376,20 +378,20 @@ def test_thousands_that_wait_take_little_time():
     async def wait(made, count):
         tasks = [asyncio.ensure_future(made()) for _ in range(count)]
         await asyncio.sleep(0)
-        for it in tasks:
-            it.cancel()
+        for task in tasks:
+            task.cancel()
         await asyncio.gather(*tasks, return_exceptions=True)
 
     def of_room(count):
         room = cache_room.Room(8)
-        return lambda: asyncio.run(wait(lambda: holding(room.taken(Asked("ann"), 4)), count))
+        return lambda: asyncio.run(wait(lambda: holding(room.taken(Request("ann"), 4)), count))
 
     def of_places(count):
         places = cache_places.Places(2, 2, 0)
         return lambda: asyncio.run(wait(lambda: holding(places.taken("ann")), count))
 
-    for it in (of_room, of_places):
-        takes_linear_time(it, (500, 4_000))
+    for work in (of_room, of_places):
+        takes_linear_time(work, (500, 4_000))
 
 
 async def holding(taken):
@@ -415,8 +417,8 @@ def test_users_take_turns_at_places():
 
 
 @pytest.mark.parametrize("made, is_idle", [
-    (lambda: cache_places.Places(3, 2, 1), lambda it: not it.running),
-    (lambda: cache_room.Room(8), lambda it: not it.held and not it.bytes),
+    (lambda: cache_places.Places(3, 2, 1), lambda places: not places.running),
+    (lambda: cache_room.Room(8), lambda room: not room.held and not room.bytes),
 ])
 def test_whoever_leaves_gives_back_what_it_has(made, is_idle, monkeypatch):
     """Whenever one that waits or has something is cancelled: all is there again, and nobody waits for what is free."""
@@ -428,10 +430,10 @@ def test_whoever_leaves_gives_back_what_it_has(made, is_idle, monkeypatch):
                 await asyncio.sleep(0)
 
     async def run(rng):
-        it, tasks = made(), []
+        shared, tasks = made(), []
         for _ in range(60):
             user, size = rng.choice("abc"), rng.randint(1, 9)
-            taken = it.taken(Asked(user), size) if isinstance(it, cache_room.Room) else it.taken(user)
+            taken = shared.taken(Request(user), size) if isinstance(shared, cache_room.Room) else shared.taken(user)
             tasks.append(asyncio.ensure_future(has(taken, rng)))
             for task in tasks:
                 if rng.random() < 0.1:
@@ -439,7 +441,7 @@ def test_whoever_leaves_gives_back_what_it_has(made, is_idle, monkeypatch):
             await asyncio.sleep(0)
         async with asyncio.timeout(60):
             await asyncio.gather(*tasks, return_exceptions=True)
-        return is_idle(it) and not it.waiting
+        return is_idle(shared) and not shared.waiting
 
     assert all(asyncio.run(run(random.Random(seed))) for seed in range(40))
 
@@ -455,11 +457,11 @@ def test_records_of_an_archive_that_waits(program, folder):
         head += f"content-length: {len(text)}\r\n\r\n"
         with contextlib.ExitStack() as held:
             clients = [held.enter_context(socket.socket(socket.AF_UNIX)) for _ in range(30)]
-            for it in clients:
-                it.connect(team.place)
-            for it in clients:
-                it.sendall(head.encode() + text)
-            assert {it.recv(100).split(b" ")[1] for it in clients} == {b"403"}
+            for client in clients:
+                client.connect(team.place)
+            for client in clients:
+                client.sendall(head.encode() + text)
+            assert {client.recv(100).split(b" ")[1] for client in clients} == {b"403"}
         status = Path(f"/proc/{team.running.pid}/status").read_text()
         assert int(re.search(r"VmHWM:\s*(\d+)", status)[1]) < 200_000, "KiB"
 
@@ -486,11 +488,11 @@ def test_bodies_that_wait_have_room():
         uploads.idle = passing.idle = 60
         uploads.recorded, look = waits, lambda caller, _: waits({"caller": caller})
         users = ["ann"] * 30 + ["bob"]
-        tasks = [asyncio.ensure_future(uploads.record(Request(it), "")) for it in users]
-        tasks += [asyncio.ensure_future(passing.request(Request(it), look)) for it in users]
+        tasks = [asyncio.ensure_future(uploads.record(Request(user), "")) for user in users]
+        tasks += [asyncio.ensure_future(passing.request(Request(user), look)) for user in users]
         await asyncio.sleep(0.5)
-        for it in tasks:
-            it.cancel()
+        for task in tasks:
+            task.cancel()
 
     asyncio.run(run())
     assert (going_on.count("ann"), going_on.count("bob")) == (20, 2)
@@ -540,7 +542,7 @@ def test_keepers_are_found_in_one_pass():
     """Who keeps what is found in one pass, also where objects keep one another."""
     def line(count):
         """A line of objects, each of which keeps its neighbours: a pass from its end brings a root on by one."""
-        kept = {at: [it for it in (at - 1, at + 1) if 0 <= it < count] for at in reversed(range(count))}
+        kept = {at: [to for to in (at - 1, at + 1) if 0 <= to < count] for at in reversed(range(count))}
         return lambda: keeps(kept, [0])
 
     takes_linear_time(line, (500, 4_000))
@@ -551,7 +553,7 @@ def test_keepers_are_found_in_one_pass():
         kept = {at: [rng.randrange(count) for _ in range(rng.randrange(4))] for at in range(count)}
         roots = [rng.randrange(count + 1) for _ in range(rng.randrange(5))]
         reached = [store_file.reach(kept, [root]) for root in roots]
-        wanted = {at: sum(1 << bit for bit, it in enumerate(reached) if at in it) for at in kept}
+        wanted = {at: sum(1 << bit for bit, reach in enumerate(reached) if at in reach) for at in kept}
         assert keeps(kept, roots) == wanted, ("keepers are those that reach", seed, kept, roots)
 
 
@@ -571,27 +573,27 @@ def test_an_overview_has_one_derivation_in_memory():
             together.append([target])
             return types.SimpleNamespace(status=200 if "gone" not in target else 404, text=text)
 
-    found = overview_source.Records(Server(), True)
-    asyncio.run(found.read(["a.drv", "b.drv", "gone.drv", "c"], None, "/nix/store"))
-    assert [len(it) for it in together if it] == [1, 1, 1], "derivations are read one at a time"
-    outputs = [found.objects[it].outputs for it in ("a.drv", "gone.drv", "c")]
+    records = overview_source.Records(Server(), True)
+    asyncio.run(records.read(["a.drv", "b.drv", "gone.drv", "c"], None, "/nix/store"))
+    assert [len(bases) for bases in together if bases] == [1, 1, 1], "derivations are read one at a time"
+    outputs = [records.objects[base].outputs for base in ("a.drv", "gone.drv", "c")]
     assert outputs == [{"out": f"{'1' * 32}-out"}, {}, {}], "and their outputs"
 
 
 def test_few_records_of_a_store_are_in_memory():
     """All pointers, a sweep and an overview need the records of all objects, which are read a hundred at a time."""
-    asked, bases = [], [f"{at:032}-x" for at in range(250)]
+    targets, bases = [], [f"{at:032}-x" for at in range(250)]
     server = cache_server.Server(None, 1)
 
     async def asks(requests):
-        asked.append([request.target for request in requests])
+        targets.append([request.target for request in requests])
         return [cache_server.Reply(200, "text/plain", request.target.encode()) for request in requests]
 
     async def read():
         server.asks, seen = asks, []
-        async for base, it in server.gets(cache_server.Caller("ann", None), "/info/", bases):
-            assert it.text == f"/info/{base}".encode()
-            assert len(asked) == len(seen) // 100 + 1, "the next ones are asked for once these are used"
+        async for base, answer in server.gets(cache_server.Caller("ann", None), "/info/", bases):
+            assert answer.text == f"/info/{base}".encode()
+            assert len(targets) == len(seen) // 100 + 1, "the next ones are asked for once these are used"
             seen.append(base)
         return seen
 
@@ -615,16 +617,16 @@ def test_pointers_are_listed_once_at_a_time():
             running.pop()
             return {}
 
-    class Asked(dict):
+    class Request(dict):
         transport = types.SimpleNamespace(is_closing=lambda: False)
 
     async def ask():
         large = cache_large.Large(None, Lookup(), 0, None, "/nix/store")
         large.passing = types.SimpleNamespace(sending=cache_http.Sending(1 << 20, 60))
         names = ["ann", "bob"] * 5
-        return await asyncio.gather(*(large.listing(Asked(caller=cache_server.Caller(name, None))) for name in names))
+        return await asyncio.gather(*(large.listing(Request(caller=cache_server.Caller(name, None))) for name in names))
 
-    assert [it.status for it in asyncio.run(ask())] == [200] * 10
+    assert [answer.status for answer in asyncio.run(ask())] == [200] * 10
     assert most == [1] * 10
 
 
@@ -641,7 +643,7 @@ def test_a_long_listing_of_pointers_has_room(monkeypatch):
         async def among(self, *_):
             return {str(at): pointer for at in range(1000)}
 
-    class Asked(dict):
+    class Request(dict):
         transport = types.SimpleNamespace(is_closing=lambda: False)
 
     class Sending(cache_http.Sending):
@@ -651,7 +653,7 @@ def test_a_long_listing_of_pointers_has_room(monkeypatch):
 
     large = cache_large.Large(None, Lookup(), 0, None, "/nix/store")
     large.passing = types.SimpleNamespace(sending=Sending(1 << 20, 60))
-    asyncio.run(large.listing(Asked(caller=cache_server.Caller("ann", None))))
+    asyncio.run(large.listing(Request(caller=cache_server.Caller("ann", None))))
     assert had[0][0] == had[0][1] > cache_http.LARGE
 
 
@@ -660,7 +662,7 @@ def test_a_large_import_is_in_memory_once():
     archive, came = nar.archive(bytes(range(256)) * 4_000), []
 
     async def import_pieces(_, head, given, size):
-        came.append((head, [it async for it in given], size))
+        came.append((head, [piece async for piece in given], size))
         return "done"
 
     async def run(least):
@@ -670,9 +672,9 @@ def test_a_large_import_is_in_memory_once():
 
     assert (asyncio.run(run(len(archive))), came) == (None, [])
     assert asyncio.run(run(len(archive) - 1)) == "done"
-    (head, found, size), = came
-    assert (head, b"".join(found), size) == (b"path: it\n\n", archive, 10 + len(archive))
-    assert max(map(len, found)) == cache_http.PIECE
+    (head, pieces, size), = came
+    assert (head, b"".join(pieces), size) == (b"path: it\n\n", archive, 10 + len(archive))
+    assert max(map(len, pieces)) == cache_http.PIECE
 
 
 def test_a_thread_that_reads_something_long_leaves_others_their_turns(monkeypatch):
@@ -767,7 +769,7 @@ def test_an_end_waits_for_no_client_that_has_left(monkeypatch):
     monkeypatch.setattr(cache_ending, "FINISH", 5)
     ending = cache_ending.Ending()
     ending.is_idle.clear()
-    ending.running = dict(enumerate(Asked("ann", True) for _ in range(4_000)))
+    ending.running = dict(enumerate(Request("ann", True) for _ in range(4_000)))
     began = time.monotonic()
     asyncio.run(ending.begin(None))
     assert time.monotonic() - began < 5
@@ -783,11 +785,11 @@ def test_a_head_byte_by_byte():
             yield b"\n"
             yield b"\nrest"
 
-        return lambda: found.append(asyncio.run(cache_large.head_of(given())))
+        return lambda: heads.append(asyncio.run(cache_large.head_of(given())))
 
-    found = []
+    heads = []
     takes_linear_time(head)
-    assert [(len(it), rest) for it, rest in found] == [(20_002, b"rest"), (160_002, b"rest")]
+    assert [(len(data), rest) for data, rest in heads] == [(20_002, b"rest"), (160_002, b"rest")]
 
 
 def test_a_deletion_takes_its_own_rows_of_a_list(folder):
@@ -822,14 +824,14 @@ def test_readers_have_the_memory_in_which_an_archive_is_unpacked(folder):
     for much don't fill the memory. What is sent as it is takes no such memory."""
     from nixkeep_tools import blobs_folder, cache_blobs, pointers
 
-    found, place = {}, blobs_folder.Folder(f"{folder}/blobs")
+    sizes, place = {}, blobs_folder.Folder(f"{folder}/blobs")
     place.begin()
 
     class Sending:
         idle = 60
 
         async def take(self, _, size):
-            found[name, form] = size
+            sizes[name, form] = size
             raise ConnectionResetError
 
     kept = cache_blobs.Blobs(place, 1, Sending())
@@ -846,7 +848,7 @@ def test_readers_have_the_memory_in_which_an_archive_is_unpacked(folder):
         for form in ("none", "zstd"):
             with pytest.raises(ConnectionResetError):
                 asyncio.run(kept.send(request, pointer, form))
-    plain, *others = sorted(found.values())
+    plain, *others = sorted(sizes.values())
     assert plain == cache_blobs.HELD and others == [plain, plain + (1 << 20), plain + (32 << 20)]
 
 
@@ -868,7 +870,7 @@ def test_dear_parts_of_archives_leave_some_for_others(folder):
     async def streamed(request, *_):
         user = request["caller"].user
         running.append(user)
-        dear = [it for it in running if it != "fay"]
+        dear = [name for name in running if name != "fay"]
         most.append((dear.count(user), len(dear)))
         await asyncio.sleep(0.05)
         running.remove(user)
@@ -878,23 +880,23 @@ def test_dear_parts_of_archives_leave_some_for_others(folder):
         kept = cache_blobs.Blobs(blobs_folder.Folder(f"{folder}/blobs"), 1, None)
         kept.streamed, pointer = streamed, pointers.Pointer("/nix/store/x", bytes(32), 1 << 30, bytes(32), 1 << 20)
         large = cache_large.Large(kept, types.SimpleNamespace(server=None, at=at), 0, None, "/nix/store")
-        found.append(pointer)
+        named.append(pointer)
         part = {"range": "bytes=-1"}
-        asked = [kept.send(Request("ann", **part), pointer, "none") for _ in range(4)]
-        asked += [large.uploaded(Request("ann"), "x.nar.xz", "x") for _ in range(4)]
+        sends = [kept.send(Request("ann", **part), pointer, "none") for _ in range(4)]
+        sends += [large.uploaded(Request("ann"), "x.nar.xz", "x") for _ in range(4)]
         others = ["bob", "carl", "dora", "eve"]
-        asked += [kept.send(Request(it, **part), pointer, "none") for it in others for _ in range(2)]
-        asked += [kept.send(Request("fay"), pointer, it) for it in ("none", "zstd")]
-        asked += [kept.send(Request("fay", **part), pointer, "zstd") for _ in range(4)]
-        await asyncio.gather(*asked)
+        sends += [kept.send(Request(user, **part), pointer, "none") for user in others for _ in range(2)]
+        sends += [kept.send(Request("fay"), pointer, form) for form in ("none", "zstd")]
+        sends += [kept.send(Request("fay", **part), pointer, "zstd") for _ in range(4)]
+        await asyncio.gather(*sends)
 
-    found = []
+    named = []
 
     async def at(*_):
-        return None, found[0]
+        return None, named[0]
 
     asyncio.run(run())
-    assert [max(it) for it in zip(*most)] == [2, 6], "of one user two at once, and of all six"
+    assert [max(counts) for counts in zip(*most)] == [2, 6], "of one user two at once, and of all six"
     first = ["ann", "ann", "bob", "bob", "carl", "dora", *["fay"] * 6]
     assert sorted(order[:12]) == first, "others come before the many of one, and what isn't dear is sent at once"
     assert len(order) == 22
@@ -942,7 +944,7 @@ def test_the_last_bytes_of_an_upload_are_unpacked_in_time(folder, monkeypatch):
 def test_what_frames_may_ask_for(windows, is_taken):
     """A file compressed by zstd asks for 32 MiB of memory at most, and its later frames for no more than the first one
     or 8 MiB."""
-    data = b"".join(by_zstd(b"x" * 100, it) for it in windows)
+    data = b"".join(by_zstd(b"x" * 100, window) for window in windows)
     work = lambda: b"".join(blob_packing.of_zstd(io.BytesIO(data)))
     if is_taken:
         assert work() == b"x" * 100 * len(windows)
@@ -981,16 +983,16 @@ def test_users_take_turns_at_sweeps():
             super().__init__(caller=types.SimpleNamespace(user=user))
             self.transport = types.SimpleNamespace(is_closing=lambda: is_closing, abort=lambda: None)
 
-    async def asked(request):
+    async def sweep(request):
         with contextlib.suppress(AttributeError, cache_room.Left):
             # (no reply can be sent to these)
             await swept.request(request)
 
     async def run():
-        many = [asyncio.ensure_future(asked(Request("ann"))) for _ in range(9)]
-        many += [asyncio.ensure_future(asked(Request("carl", True))) for _ in range(9)]
+        many = [asyncio.ensure_future(sweep(Request("ann"))) for _ in range(9)]
+        many += [asyncio.ensure_future(sweep(Request("carl", True))) for _ in range(9)]
         await asyncio.sleep(0)
-        await asyncio.gather(asked(Request("bob")), *many)
+        await asyncio.gather(sweep(Request("bob")), *many)
 
     kept, cache_sweep.body, swept.lines = cache_sweep.body, empty, lines
     try:

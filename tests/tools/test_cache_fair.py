@@ -14,7 +14,7 @@ from tests.tools.test_cache_at_once import stores
 pytestmark = pytest.mark.needs("curl", "python3-aiohttp")
 
 
-class Asked(dict):
+class Request(dict):
     """A request for something, by a user who is named, or by nobody."""
 
     method, raw_path = "GET", "/paths"
@@ -49,17 +49,17 @@ async def slow(_):
 def test_a_user_has_half_of_what_others_leave():
     fair, users = cache_fair.Fair(16), [*["ann"] * 20, *["bob"] * 9, *["carl"] * 3, *["dora"] * 2, "eve"]
     for _ in range(2):
-        found = answered(fair, map(Asked, users), slow)
-        done = [user for user, (status, *_) in zip(users, found) if status == 200]
-        assert [done.count(it) for it in ("ann", "bob", "carl", "dora", "eve")] == [8, 4, 2, 1, 0]
-        assert found[8] == (429, "failed: busy 8 requests of ann are being answered: try again later\n", "1")
-        assert found[-1] == (503, "failed: busy 15 requests are being answered: try again later\n", "1")
+        replies = answered(fair, map(Request, users), slow)
+        done = [user for user, (status, *_) in zip(users, replies) if status == 200]
+        assert [done.count(user) for user in ("ann", "bob", "carl", "dora", "eve")] == [8, 4, 2, 1, 0]
+        assert replies[8] == (429, "failed: busy 8 requests of ann are being answered: try again later\n", "1")
+        assert replies[-1] == (503, "failed: busy 15 requests are being answered: try again later\n", "1")
     assert not fair.running, "what has ended counts no more"
 
 
 def test_one_user_has_all():
-    found = answered(cache_fair.Fair(5, True), [Asked("ann") for _ in range(9)], slow)
-    assert [status for status, *_ in found] == [200] * 5 + [429] * 4
+    replies = answered(cache_fair.Fair(5, True), [Request("ann") for _ in range(9)], slow)
+    assert [status for status, *_ in replies] == [200] * 5 + [429] * 4
 
 
 def test_who_waits_to_be_admitted_counts():
@@ -68,10 +68,10 @@ def test_who_waits_to_be_admitted_counts():
         await asyncio.sleep(0.1)
         return cache_server.Reply(403, "text/plain", b"denied: connect\n")
 
-    found = answered(cache_fair.Fair(8), [Asked("ann") for _ in range(9)], slow, denial)
-    assert [status for status, *_ in found] == [403] * 4 + [429] * 5
-    found = answered(cache_fair.Fair(8), [Asked(target="/health") for _ in range(9)], slow, denial)
-    assert [status for status, *_ in found] == [200] * 4 + [429] * 5
+    replies = answered(cache_fair.Fair(8), [Request("ann") for _ in range(9)], slow, denial)
+    assert [status for status, *_ in replies] == [403] * 4 + [429] * 5
+    replies = answered(cache_fair.Fair(8), [Request(target="/health") for _ in range(9)], slow, denial)
+    assert [status for status, *_ in replies] == [200] * 4 + [429] * 5
 
 
 def test_what_fails_counts_no_more():
@@ -81,7 +81,7 @@ def test_what_fails_counts_no_more():
     fair = cache_fair.Fair(2)
     for _ in range(5):
         with pytest.raises(ConnectionError):
-            answered(fair, [Asked("ann")], fails)
+            answered(fair, [Request("ann")], fails)
     assert not fair.running
 
 
@@ -104,16 +104,16 @@ def sent(client, place, method, target, user):
 
 
 def first_lines(clients):
-    return {it.recv(1000).partition(b"\r\n")[0] for it in clients}
+    return {client.recv(1000).partition(b"\r\n")[0] for client in clients}
 
 
 @pytest.mark.parametrize("users", [["ann"], ["ann", "bob"]])
 def test_many_changes_at_once(program, folder, users, clients):
     """Of 400 changes at once, by one user or by two, none is refused."""
     with stores(program, folder, "--proxied") as (made, _):
-        for at, it in enumerate(clients):
+        for at, client in enumerate(clients):
             user = users[at % len(users)]
-            sent(it, made.place, "DELETE", f"/temp/{user}/1", user)
+            sent(client, made.place, "DELETE", f"/temp/{user}/1", user)
         assert first_lines(clients) == {b"HTTP/1.1 200 OK"}
 
 
@@ -121,8 +121,8 @@ def test_many_wait_while_it_restarts(unit, clients):
     """400 requests that come to the unit's socket while the store is stopped are answered by the next process."""
     with unit() as store:
         store.end()
-        for it in clients:
-            sent(it, store.place, "GET", "/who", "ann")
+        for client in clients:
+            sent(client, store.place, "GET", "/who", "ann")
         store.start()
         assert first_lines(clients) == {b"HTTP/1.1 200 OK"}
 
@@ -134,13 +134,13 @@ def test_bodies_that_wait_take_little_memory(program, folder):
         memory = lambda: store_size.resident(made.running.pid)
         before, clients = memory(), [held.enter_context(socket.socket(socket.AF_UNIX)) for _ in range(count)]
         head = b"POST /text HTTP/1.1\r\nhost: red\r\nstore-user: ann\r\ncontent-length: 20000000\r\n\r\n"
-        for it in clients:
-            it.connect(made.place)
-            it.sendall(head)
-            it.setblocking(False)
+        for client in clients:
+            client.connect(made.place)
+            client.sendall(head)
+            client.setblocking(False)
         for _ in range(5):
-            for it in clients:
+            for client in clients:
                 with contextlib.suppress(BlockingIOError):
-                    it.send(bytes(100_000))
+                    client.send(bytes(100_000))
             time.sleep(0.2)
         assert memory() - before < count * 120_000

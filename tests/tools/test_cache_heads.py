@@ -26,7 +26,7 @@ NO_FIELDS = {
     "a line feed before no name": b"x: y\n: z", "a control character": b"a\x01: x", "a zero": b"a\x00: x",
     "a delete": b"a\x7f: x", "a letter beyond ASCII": b"\xe9: x", "a letter of UTF-8": b"store\xe2\x80\x90user: bob",
     "a return in a name": b"a\rb: x", "a return before a colon": b"a\r: x", "a vertical tab": b"\x0bx: y",
-    **{f"the separator {it}": b"a%sb: x" % it.encode() for it in '"(),/;<=>?@[\\]{}'},
+    **{f"the separator {char}": b"a%sb: x" % char.encode() for char in '"(),/;<=>?@[\\]{}'},
 }
 # Fields with each character of a token.
 FIELDS = [b"!#$%&'*+.^_`|~-09azAZ: x", b"x:", b"x:y", b"x:  :y : z", b"x: \xe9"]
@@ -43,7 +43,7 @@ def cache(program, tmp_path_factory):
 
 def places(line):
     """A head's fields with a line among them: first, in the middle, and last."""
-    return [b"\r\n".join(it) for it in ([line, HOST, USER], [HOST, line, USER], [HOST, USER, line])]
+    return [b"\r\n".join(lines) for lines in ([line, HOST, USER], [HOST, line, USER], [HOST, USER, line])]
 
 
 def came(place, *pieces):
@@ -51,14 +51,14 @@ def came(place, *pieces):
     with socket.socket(socket.AF_UNIX) as client:
         client.settimeout(60)
         client.connect(place)
-        found = b""
+        data = b""
         with contextlib.suppress(BrokenPipeError, ConnectionResetError):
-            for it in pieces:
-                client.sendall(it)
+            for sent in pieces:
+                client.sendall(sent)
         with contextlib.suppress(ConnectionResetError):
             while piece := client.recv(65_536):
-                found += piece
-    return found
+                data += piece
+    return data
 
 
 def statuses(place, *pieces):
@@ -72,8 +72,8 @@ def test_what_is_no_field(cache, name):
     for fields in places(NO_FIELDS[name]):
         for target in (record, b"/nix-cache-info"):
             head = GET % (target, fields)
-            found = [statuses(place, head), statuses(place, head[:-9], head[-9:]), statuses(place, OTHER + head + LAST)]
-            assert found == [[b"400"], [b"400"], [b"200", b"400"]], (target, fields)
+            seen = [statuses(place, head), statuses(place, head[:-9], head[-9:]), statuses(place, OTHER + head + LAST)]
+            assert seen == [[b"400"], [b"400"], [b"200", b"400"]], (target, fields)
 
 
 @pytest.mark.parametrize("line", FIELDS)
@@ -101,8 +101,8 @@ def test_a_field_after_a_body(cache):
 def parser():
     protocol = types.SimpleNamespace(reading=[], pause_reading=lambda: protocol.reading.append("paused"),
                                      resume_reading=lambda: protocol.reading.append("resumed"),
-                                     data_received=lambda data: protocol.found.extend(made.feed_data(data)[0]),
-                                     found=[], _reading_paused=False)
+                                     data_received=lambda data: protocol.messages.extend(made.feed_data(data)[0]),
+                                     messages=[], _reading_paused=False)
     made = cache_heads.Heads(http.HttpRequestParser(protocol, asyncio.get_running_loop(), 2**16), protocol)
     return made, protocol
 
@@ -113,13 +113,13 @@ def test_heads_in_pieces(size):
     head = GET % (b"/x", HOST + b"\r\nA-1:  b : c \r\ncontent-length: 9")
 
     async def run():
-        made, found = parser()[0], []
+        made, messages = parser()[0], []
         sent = (b"\r\n\n" + head + b": x\r\n\r\n: ") * 3
         # (an empty piece is a turn of what is held)
         for at in [*range(0, len(sent), size), len(sent), len(sent)]:
-            found += made.feed_data(sent[at : at + size])[0]
+            messages += made.feed_data(sent[at : at + size])[0]
             made.is_asked = False
-        return [(it.raw_headers[1:], b"".join(payload._buffer)) for it, payload in found]
+        return [(message.raw_headers[1:], b"".join(payload._buffer)) for message, payload in messages]
 
     fields = ((b"A-1", b"b : c "), (b"content-length", b"9"))
     assert asyncio.run(run()) == [(fields, b": x\r\n\r\n: ")] * 3
@@ -133,8 +133,8 @@ def bytes_of(line_end, fields, body):
 
 def read_by(feed, pieces):
     # (what has no body has no buffer)
-    found = [it for piece in pieces for it in feed(piece)[0]]
-    return [(it.raw_headers, b"".join(getattr(payload, "_buffer", []))) for it, payload in found]
+    messages = [message for piece in pieces for message in feed(piece)[0]]
+    return [(message.raw_headers, b"".join(getattr(payload, "_buffer", []))) for message, payload in messages]
 
 
 @settings(max_examples=500, derandomize=True, **drawn.SETTINGS)
@@ -149,9 +149,9 @@ def test_requests_are_those_of_aiohttp(requests, sizes):
         made, _ = parser()
 
         def feed(piece):
-            found = made.feed_data(piece)[0]
+            messages = made.feed_data(piece)[0]
             made.is_asked = False
-            return found, False, b""
+            return messages, False, b""
 
         # (an empty piece is a turn of what is held)
         pieces = [sent[begin:end] for begin, end in zip([0, *ends], ends)] + [b""] * len(requests)
@@ -166,7 +166,7 @@ def test_nothing_follows_a_head_that_is_refused():
         made = parser()[0]
         with pytest.raises(BadHttpMessage):
             made.feed_data(GET % (b"/x", b": x"))
-        return [made.feed_data(it) for it in (GET % (b"/x", HOST), b"\r\n", HOST)]
+        return [made.feed_data(piece) for piece in (GET % (b"/x", HOST), b"\r\n", HOST)]
 
     assert asyncio.run(run()) == [([], False, b"")] * 3
 
@@ -189,13 +189,13 @@ def test_requests_ahead_of_a_reply():
     async def run():
         made, protocol = parser()
         head, seen = GET % (b"/x", HOST), []
-        found = made.feed_data(head * 3)[0]
+        messages = made.feed_data(head * 3)[0]
         for _ in range(4):
-            seen.append((len(found) + len(protocol.found), *protocol.reading))
+            seen.append((len(messages) + len(protocol.messages), *protocol.reading))
             made.set_upgraded(False)
             await asyncio.sleep(0.01)
         made.feed_data(head * 5_000)
-        return seen, protocol.reading[-1], len(protocol.found)
+        return seen, protocol.reading[-1], len(protocol.messages)
 
     assert asyncio.run(run()) == ([(1,), (2, "resumed"), (3, "resumed", "resumed"), (3, "resumed", "resumed")],
                                   "paused", 2)

@@ -102,7 +102,8 @@ def test_what_comes_while_a_server_runs(first, kind, is_add, monkeypatch):
             bytes_of, runs, next_start = ROWS[first if file < most // 2 else kind]
             count = 1_000_000 // bytes_of
             limit.check(count * bytes_of, is_add)
-            file, had, starts = (now + count * it for now, it in zip((file, had, starts), (bytes_of, runs, next_start)))
+            file, had, starts = (now + count * step for now, step in zip((file, had, starts),
+                                                                     (bytes_of, runs, next_start)))
     assert file > (0.9 if {first, kind} == {"archives"} else 0.1) * most
     assert starts + store_size.CACHE + own < MEMORY
 

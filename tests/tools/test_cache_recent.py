@@ -68,7 +68,7 @@ def test_who_gets_a_record_from_memory(unit):
             values = figures(running)
             assert not store.is_answered("bob", "HEAD"), "by HEAD the server is asked"
             assert not store.is_answered("build"), "and whether another user may read"
-        counts = [values.get(("nixkeep_requests_total", "GET", "record", it)) for it in ("200", "403", "400")]
+        counts = [values.get(("nixkeep_requests_total", "GET", "record", status)) for status in ("200", "403", "400")]
         assert counts == [3, 2, 1] and values["nixkeep_lookups_total", "yes"] == 3
         assert values["nixkeep_sent_bytes_total", "GET", "record"] == sum(map(len, (
             3 * store.first[1], 2 * b"denied: connect\n", b"refused: 20 bad-caller\n")))
@@ -78,7 +78,7 @@ def test_a_reply_from_memory_has_the_same_head(unit):
     with unit() as running:
         path = ask(running.place, "ann", "POST", "/text", text("held"))[1].decode().strip()
         heads = [ask(running.place, "ann", "GET", f"/{path[11:43]}.narinfo", None, "-D", "-")[1] for _ in range(2)]
-    assert len({re.sub(rb"(?m)^Date: .*$", b"", it) for it in heads}) == 1 and b"max-age=60" in heads[0]
+    assert len({re.sub(rb"(?m)^Date: .*$", b"", head) for head in heads}) == 1 and b"max-age=60" in heads[0]
 
 
 def test_a_deletion_that_is_on_its_way(unit):
@@ -142,17 +142,17 @@ def test_signatures_of_a_record_in_memory(unit):
     message = f"1;{path};{nar.nar_hash(archive)};{len(archive)};".encode()
     coded = lambda data: base64.b64encode(bytes(data)).decode()
     keys = {name: signing.SigningKey(name.encode() * 32) for name in "pq"}
-    public = " ".join(f"{name}:{coded(it.verify_key)}" for name, it in keys.items())
+    public = " ".join(f"{name}:{coded(key.verify_key)}" for name, key in keys.items())
     with unit("--trusted-public-keys", public) as running:
         for at in range(2):
-            sigs = [("Sig", f"{name}:{coded(it.sign(message).signature)}") for name, it in [*keys.items()][: at + 1]]
+            sigs = [("Sig", f"{name}:{coded(key.sign(message).signature)}") for name, key in [*keys.items()][: at + 1]]
             name = file_name(archive)
             ask(running.place, "build", "PUT", f"/nar/{name}", archive)
             given = record(path, archive, name, *sigs)
             assert ask(running.place, "build", "PUT", f"/{DIGITS}.narinfo", given)[0] == 200
             for _ in range(2):
-                found = ask(running.place, "bob", "GET", f"/{DIGITS}.narinfo")[1].decode()
-                assert re.findall("^Sig: (.*)$", found, re.M) == [it for _, it in sigs]
+                served = ask(running.place, "bob", "GET", f"/{DIGITS}.narinfo")[1].decode()
+                assert re.findall("^Sig: (.*)$", served, re.M) == [sig for _, sig in sigs]
 
 
 class Place:
@@ -235,7 +235,7 @@ def test_the_memory_of_records():
     for at in range(30):
         recent.add(str(at), bytes(100), recent.now())
         assert recent.text("0")
-    assert [it for it in range(30) if recent.text(str(it))] == [0, *range(21, 30)]
+    assert [number for number in range(30) if recent.text(str(number))] == [0, *range(21, 30)]
     recent.add("0", bytes(10_000), recent.now())
     assert len(recent.texts) < 10 and recent.size <= recent.most
     recent.add("large", bytes(recent.most), recent.now())

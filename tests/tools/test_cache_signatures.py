@@ -111,9 +111,9 @@ def test_nix_that_demands_signatures(program, folder):
         desk("nix", "copy", "--from", url, made[-1])
         desk("nix-store", "--verify-path", *made)
         desk("nix", "store", "verify", "--recursive", made[-1])
-        seen = [signatures(desk, url, it) for it in made]
+        seen = [signatures(desk, url, path) for path in made]
         host("nix", "store", "sign", "--key-file", secret, "--recursive", made[-1])
-        assert seen == [signatures(host, None, it) for it in made], "each signature is the one that Nix makes"
+        assert seen == [signatures(host, None, path) for path in made], "each signature is the one that Nix makes"
         substituting = demanding(f"{folder}/substituting", public, f"substituters = {url}\n")
         substituting("nix-store", "--realise", made[-1])
         assert Path(substituting.root + made[-1]).exists(), "without trusted=true"
@@ -131,7 +131,7 @@ FORGED = {"of other bytes": f"Sig: builder-1:{BAD}\n", "too short": "Sig: builde
 @needs_nix
 def test_signatures_that_come_with_an_upload(program, folder):
     """They stay where their key is trusted, also after a restart, and no others."""
-    keys = {it: new_key(folder, it) for it in ("builder-1", "other-1")}
+    keys = {signer: new_key(folder, signer) for signer in ("builder-1", "other-1")}
     host, public = parts.Nix(f"{folder}/host"), keys["builder-1"][1]
     made = host.closure(4, 4, "built")
     for secret, _ in keys.values():
@@ -140,7 +140,7 @@ def test_signatures_that_come_with_an_upload(program, folder):
         host("nix", "copy", "--to", f"{url}?compression=none", made[-1])
         # (Nix itself remembers the record that it has uploaded)
         record = lambda path: parts.curl(f"{url}/{path[11:43]}.narinfo")[1].decode()
-        names = lambda: [re.findall("^Sig: (.*):", record(it), re.M) for it in made]
+        names = lambda: [re.findall("^Sig: (.*):", record(path), re.M) for path in made]
         assert names() == [["builder-1"]] * len(made), "the trusted signature is kept, and not the other"
         cache.end()
         cache.start()
@@ -150,7 +150,7 @@ def test_signatures_that_come_with_an_upload(program, folder):
         name = f"{nar.digest(archive)}.nar"
         put = lambda target, given: parts.curl("-X", "PUT", "--data-binary", "@-", f"{url}/{target}", given=given)[0]
         # (of the last digit four bits say nothing, so a good signature has sixteen forms)
-        again = re.sub("(.)==$", lambda it: f"{chr(ord(it[1]) + 1)}==", re.search("^Sig: .*", text, re.M)[0])
+        again = re.sub("(.)==$", lambda match: f"{chr(ord(match[1]) + 1)}==", re.search("^Sig: .*", text, re.M)[0])
         for what, more in {**FORGED, "in another form": f"{again}\n"}.items():
             put(f"nar/{name}", archive)
             given = re.sub(r"^URL: .*", f"URL: nar/{name}", text, flags=re.M) + more

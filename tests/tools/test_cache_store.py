@@ -17,6 +17,7 @@ import threading
 import time
 import tracemalloc
 import zlib
+from concurrent.futures import ThreadPoolExecutor
 from pathlib import Path
 
 import pytest
@@ -43,7 +44,8 @@ def test_a_server_that_is_a_child(unit):
             store.kill_server()
             assert add(f"more{count}") == 200, f"killed {count + 1} times, it is started again"
         lines = store.lines()
-        assert [it.rpartition("in ")[2] for it in lines] == ["0.5 s", "1 s", "2 s"], "each later start waits for longer"
+        assert [line.rpartition("in ")[2] for line in lines] == [
+        "0.5 s", "1 s", "2 s"], "each later start waits for longer"
         pid = store.server()
         store.end()
         assert not Path(f"/proc/{pid}").exists(), "it ends with the cache"
@@ -68,9 +70,19 @@ def test_a_program_that_was_replaced(unit, folder):
         shutil.copy(was, f"{folder}/another")
         os.rename(f"{folder}/another", f"{folder}/program")
         assert ask(store.place, "ann", "POST", "/text", text("two"))[0] == 200, "the server goes on"
-        store.kill_server()
-        assert store.running.wait(60) == 1
-        assert store.lines()[-1].endswith(f"{folder}/program is another program by now: start this again")
+        os.kill(store.server(), signal.SIGSTOP)
+        requests = ("POST", "/text", text("x")), ("GET", "/paths")
+        with ThreadPoolExecutor() as pool:
+            late = [pool.submit(ask, store.place, "ann", *request) for request in requests]
+            parts.until("they wait for the server", lambda: not time.sleep(1))
+            store.kill_server()
+            try:
+                assert store.running.wait(60) == 1, "it waits for nobody who waits for a server"
+            finally:
+                store.running.kill()
+            assert {answer.result() for answer in late} == {(502, b"the server has ended: try again later\n")}
+        last = f"{folder}/program is another program by now: start this again"
+        assert any(line.endswith(last) for line in store.lines())
         store.start()
         assert len(ask(store.place, "ann", "GET", "/paths")[1].splitlines()) == 2, "the next start is as any"
 
@@ -152,8 +164,8 @@ def test_turns_of_users():
         await asyncio.sleep(0)
         given_up = [asyncio.create_task(work("bob")) for _ in range(3)]
         await asyncio.sleep(0)
-        for it in given_up[:2]:
-            it.cancel()
+        for task in given_up[:2]:
+            task.cancel()
         await asyncio.gather(*tasks, *given_up, return_exceptions=True)
         async with made.turn("carol"):
             return order
@@ -167,7 +179,7 @@ def test_the_limit_of_the_file(unit):
     """A file that is nearly as large as it may be takes no adds, until something is collected."""
     contents = random.Random(9).randbytes(100_000)
     with unit("--most-bytes", "1000000") as store:
-        ann = lambda *it: ask(store.place, "ann", *it)
+        ann = lambda *words: ask(store.place, "ann", *words)
         added = []
         while len(added) < 20 and (reply := ann("POST", "/text", text(f"t{len(added)}", contents)))[0] == 200:
             added.append(reply[1].decode().strip())
@@ -189,21 +201,21 @@ def test_the_share_of_a_user(unit, folder):
     contents = bytes(10_000)
     with unit("--most-bytes-each", "25000") as store:
         add = lambda user, name: ask(store.place, user, "POST", "/text", text(name, contents))
-        assert [add("ann", it)[0] for it in ("a", "b", "c")] == [200, 200, 507], "a third isn't within the share"
+        assert [add("ann", name)[0] for name in ("a", "b", "c")] == [200, 200, 507], "a third isn't within the share"
         said = add("ann", "c")[1]
         assert said.endswith(b"of 25000 bytes are used by ann: drop roots, and collect\n"), ("the reply says so", said)
         assert add("bob", "c")[0] == 200, "another user has a share, too"
         assert add("bob", "b")[0] == 200, "what another has added counts for that one"
         store.end()
         store.start()
-        assert [add(it, "d")[0] for it in ("ann", "bob")] == [507, 200], "the share is known after a restart"
+        assert [add(user, "d")[0] for user in ("ann", "bob")] == [507, 200], "the share is known after a restart"
         ask(store.place, "bob", "POST", "/collect")
         assert add("ann", "c")[0] == 200, "what is collected counts no more"
         store.end()
         file = f"{folder}/waiting/shares.db"
         Path(file).write_bytes(b"no list" * 1000)
         store.start()
-        assert [add("bob", it)[0] for it in ("e", "f")] == [200, 200], "a damaged list of shares is begun anew"
+        assert [add("bob", name)[0] for name in ("e", "f")] == [200, 200], "a damaged list of shares is begun anew"
         assert Path(f"{file}.damaged").exists() and Path(store.log).read_text().count("begun anew") == 1, (
             "it is set aside, and a line says so", Path(store.log).read_text())
         store.end()
@@ -244,8 +256,8 @@ def test_a_list_with_a_damaged_page(is_running, folder):
             pass
         shares.deleted(b"/nix/store/" + b"0" * 32 + b"-x\n")
         cache_lists.close()
-        for it in ("-wal", "-shm", ".damaged"):
-            Path(file + it).unlink(missing_ok=True)
+        for suffix in ("-wal", "-shm", ".damaged"):
+            Path(file + suffix).unlink(missing_ok=True)
 
 
 def test_what_counts_for_no_share(unit):
@@ -260,7 +272,7 @@ def test_what_counts_for_no_share(unit):
         assert root("bob", "mine", two)[0] == 200, "another user's root"
         assert ask(store.place, "bob", "POST", "/collect")[0] == 200
         assert add("ann", "c")[0] == 507, "doesn't move the object into that user's share"
-        assert [add("bob", it)[0] for it in ("d", "e")] == [200, 200]
+        assert [add("bob", name)[0] for name in ("d", "e")] == [200, 200]
 
 
 # The limit of a group that has none, by the first version of control groups.
@@ -282,11 +294,11 @@ def test_the_limit_of_a_group(own, place, name, none, folder, monkeypatch):
     assert store_size.memory() == 4 << 30, "a system without groups"
     Path(f"{folder}/own").write_text(own.format("/system.slice/store.service"))
     group.mkdir(parents=True)
-    for it, limit in ((group, none), (group.parent, none)):
-        (it / name).write_text(f"{limit}\n")
+    for level, limit in ((group, none), (group.parent, none)):
+        (level / name).write_text(f"{limit}\n")
         assert store_size.memory() == 4 << 30, "no limit"
-    for it, limit in ((group, 3 << 30), (group.parent, 2 << 30), (Path(f"{folder}/cgroup{place}"), 1 << 30)):
-        (it / name).write_text(f"{limit}\n")
+    for level, limit in ((group, 3 << 30), (group.parent, 2 << 30), (Path(f"{folder}/cgroup{place}"), 1 << 30)):
+        (level / name).write_text(f"{limit}\n")
         assert store_size.memory() == limit, "that of the group, and of those above it"
 
 
@@ -375,7 +387,7 @@ def test_sessions(unit, folder):
     """What is uploaded is kept until nothing has come for a while, also when the cache is restarted meanwhile."""
     rng = random.Random(10)
     with unit() as store:
-        as_of = lambda user: lambda *it: ask(store.place, user, *it)
+        as_of = lambda user: lambda *words: ask(store.place, user, *words)
         path, archive = some_path(rng, "uploaded"), nar.archive(b"uploaded")
         build = as_of("build")
         build("PUT", f"/nar/{file_name(archive)}", archive)
@@ -399,22 +411,22 @@ def test_paths_kept_in_turns(folder):
     class Server:
         async def asks(self, requests, first=lambda: ()):
             if len(exchanges) == 2:
-                made.asked(ann, "late")
-            exchanges.append([it.target for it in (*first(), *requests)])
+                made.remember(ann, "late")
+            exchanges.append([request.target for request in (*first(), *requests)])
             return exchanges[-1]
 
     made, ann = cache_sessions.Sessions(Server(), f"{folder}/kept", 3600), cache_sessions.Caller("ann", None)
     for at in range(250):
-        made.asked(ann, f"path{at}")
+        made.remember(ann, f"path{at}")
     collect = cache_sessions.Request(cache_sessions.Caller("bob", None), "POST", "/collect")
-    made.asked(ann, None)
+    made.remember(ann, None)
     assert asyncio.run(made.before(collect)) == "/collect", "the reply is that to the collection"
-    assert [len(it) for it in exchanges] == [100, 100, 52], "the last with one that is asked for meanwhile"
+    assert [len(exchange) for exchange in exchanges] == [100, 100, 52], "the last with one that is asked for meanwhile"
     asyncio.run(made.before(collect))
     assert exchanges[3] == ["/collect"], "and once"
-    made.asked(ann, "ann's")
+    made.remember(ann, "ann's")
     for at in range(cache_sessions.MOST + 10):
-        made.asked(collect.caller, f"path{at}")
+        made.remember(collect.caller, f"path{at}")
     del exchanges[3:]
     asyncio.run(made.before(collect))
     kept = [cache_sessions.target("ann"), "/collect"]
@@ -423,19 +435,19 @@ def test_paths_kept_in_turns(folder):
 
 def kept_before_a_collection(folder, asked_for):
     """The exchanges with a server of which each first has `asked_for` called, with Sessions and the two users in it."""
-    exchanges, (ann, bob) = [], (cache_sessions.Caller(it, None) for it in ("ann", "bob"))
+    exchanges, (ann, bob) = [], (cache_sessions.Caller(user, None) for user in ("ann", "bob"))
 
     class Server:
         async def asks(self, requests, first=lambda: ()):
             asked_for(made, len(exchanges), ann)
-            exchanges.append([(it.caller.user, it.target) for it in (*first(), *requests)])
+            exchanges.append([(request.caller.user, request.target) for request in (*first(), *requests)])
             return exchanges[-1]
 
     made = cache_sessions.Sessions(Server(), f"{folder}/more", 3600)
-    for it in (ann, bob):
-        made.asked(it, None)
+    for caller in (ann, bob):
+        made.remember(caller, None)
     asked_for(made, -1, ann)
-    made.asked(bob, "bob's")
+    made.remember(bob, "bob's")
     asyncio.run(made.before(cache_sessions.Request(ann, "POST", "/collect")))
     assert exchanges[-1][-1] == ("ann", "/collect") and max(map(len, exchanges)) <= 101
     return exchanges
@@ -447,7 +459,7 @@ def test_paths_without_an_end_before_a_deletion(folder):
 
     def asked_for(made, number, ann):
         for at in range(200):
-            made.asked(ann, f"path{number}-{at}")
+            made.remember(ann, f"path{number}-{at}")
 
     exchanges = kept_before_a_collection(folder, asked_for)
     assert ("bob", cache_sessions.target("bob")) in exchanges[0] and len(exchanges) == 101
@@ -455,16 +467,16 @@ def test_paths_without_an_end_before_a_deletion(folder):
 
 def test_many_paths_right_before_a_deletion(folder):
     """All are kept, though they come while the last ones wait for their turn."""
-    asked = []
+    paths = []
 
     def asked_for(made, number, ann):
         for _ in range(150 if number == 0 else 0):
-            asked.append(f"path{len(asked)}")
-            made.asked(ann, asked[-1])
+            paths.append(f"path{len(paths)}")
+            made.remember(ann, paths[-1])
 
     exchanges = kept_before_a_collection(folder, asked_for)
-    count = sum(it == ("ann", cache_sessions.target("ann")) for exchange in exchanges for it in exchange)
-    assert (count, len(asked)) == (300, 300)
+    count = sum(pair == ("ann", cache_sessions.target("ann")) for exchange in exchanges for pair in exchange)
+    assert (count, len(paths)) == (300, 300)
 
 
 @pytest.mark.parametrize("when", ["before its turn", "after its turn", "not at all"])
@@ -476,7 +488,7 @@ def test_an_upload_at_the_end_of_a_session(when, folder):
         async def asks(self, requests, first):
             if when == "before its turn":
                 made.touch("ann")
-            ended.extend([*first(), *(it.method for it in requests)])
+            ended.extend([*first(), *(request.method for request in requests)])
             if when == "after its turn":
                 made.touch("ann")
             return [cache_server.Reply(200, "text/plain", b"")]
@@ -531,8 +543,8 @@ def test_replies_that_nobody_reads(folder):
             head, asks = await asyncio.open_unix_connection(place)
             asks.write(b"HEAD / HTTP/1.1\r\nhost: a\r\nconnection: close\r\n\r\n")
             heads.append(await head.read(-1))
-            for _, it in [*silent, (reader, writer), (head, asks)]:
-                it.close()
+            for _, stream in [*silent, (reader, writer), (head, asks)]:
+                stream.close()
             return text.partition(b"\r\n\r\n")[2]
 
     assert asyncio.run(run()) == bytes(size), "six clients take nothing, and another gets its reply of 4 MiB"
@@ -568,8 +580,8 @@ def test_many_slow_clients(folder):
             await asyncio.sleep(1)
             await asyncio.gather(asks(b"ann", b"/"), asks(b"carol", b"/much"))
             served = sorted(whole)
-            for it in slow:
-                it.cancel()
+            for task in slow:
+                task.cancel()
             await asyncio.gather(*slow, return_exceptions=True)
             return served
 
@@ -703,6 +715,25 @@ def test_an_end_with_half_a_body(unit):
         store.running = None
 
 
+def test_an_end_ahead_of_a_first_request(unit):
+    """Whoever has connected as the cache ends sends a request a second later, as on a busy machine, and is answered.
+    One who sends nothing holds it up for a few seconds."""
+    with unit() as store, socket.socket(socket.AF_UNIX) as client, socket.socket(socket.AF_UNIX) as silent:
+        for each in (client, silent):
+            each.connect(store.place)
+        parts.until("both are accepted", lambda: ask(store.place, "ann", "GET", "/paths")[0] == 200)
+        store.running.send_signal(signal.SIGTERM)
+        began = time.monotonic()
+        time.sleep(1)
+        reply = b""
+        with contextlib.suppress(ConnectionError):
+            client.sendall(b"GET /paths HTTP/1.1\r\nhost: red\r\nstore-user: ann\r\n\r\n")
+            reply = client.recv(1000)
+        assert reply.startswith(b"HTTP/1.1 200"), reply
+        assert store.running.wait() == 0 and time.monotonic() - began < 20
+        store.running = None
+
+
 def test_an_end_that_slow_clients_hold_up(unit):
     """Clients that send or take slowly hold up an end for less than a minute, and it ends well."""
     with unit() as store, contextlib.ExitStack() as held:
@@ -762,8 +793,8 @@ def test_a_server_that_hangs():
 
     async def run():
         server = cache_server.Server(Place(), 4, 4)
-        running = [server.ask(cache_server.Caller(it, None), "POST", "/import") for it in ("ann", "bob")]
-        return [it.status for it in await asyncio.gather(*running)]
+        running = [server.ask(cache_server.Caller(user, None), "POST", "/import") for user in ("ann", "bob")]
+        return [reply.status for reply in await asyncio.gather(*running)]
 
     assert asyncio.run(run()) == [404, 404], "a server that hung is started again, and both requests are answered"
 

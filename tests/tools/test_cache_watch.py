@@ -27,10 +27,10 @@ def test_metrics(unit, folder):
             ask(store.place, "ann", "GET", target, None, "--path-as-is")
         ask(store.place, "eve", "GET", "/paths")
         values = figures(store)
-        counts = [values.get(("nixkeep_requests_total", *it.split())) for it in
+        counts = [values.get(("nixkeep_requests_total", *labels.split())) for labels in
                   ("POST text 200", "GET record 200", "GET record 404")]
         assert counts == [1, 1, 2], "an add, a hit and two misses"
-        assert [values.get(("nixkeep_lookups_total", it)) for it in ("yes", "no")] == [1, 2], "the same as hits"
+        assert [values.get(("nixkeep_lookups_total", label)) for label in ("yes", "no")] == [1, 2], "the same as hits"
         assert values.get(("nixkeep_requests_total", "GET", "other", "404")) == 2, "targets of no route have one word"
         assert values.get(("nixkeep_requests_total", "GET", "paths", "403")) == 1, "a stranger's request is counted"
         assert values["nixkeep_received_bytes_total", "POST", "text"] == len(text("one", bytes(10_000))), "bytes come"
@@ -39,7 +39,7 @@ def test_metrics(unit, folder):
         assert 0 < values["nixkeep_store_bytes",] <= used, "the size of the file"
         assert values["nixkeep_store_bytes_limit",] == 100_000_000, "and its limit"
         assert 1 << 20 < values["nixkeep_start_memory_bytes",] < 1 << 30, "the memory of the server's next start"
-        assert [values[it,] for it in ("nixkeep_up", "nixkeep_queue")] == [1, 0], "it is there, and nothing waits"
+        assert [values[name,] for name in ("nixkeep_up", "nixkeep_queue")] == [1, 0], "it is there, and nothing waits"
         assert ("nixkeep_backup_age_seconds",) not in values, "no copy has been made"
         Path(f"{folder}/backup.json").write_text(json.dumps({"succeeded": int(time.time()) - 1000}))
         age = figures(store)["nixkeep_backup_age_seconds",]
@@ -51,11 +51,12 @@ def test_metrics(unit, folder):
 
 def allowed(store):
     """Who may read the figures, and what the monitor may besides: nothing."""
-    status = lambda user, *it: ask(store.place, user, *it)[0]
+    status = lambda user, *words: ask(store.place, user, *words)[0]
     assert status("eve", "GET", "/metrics") == 403, "a stranger may not"
     assert curl("--unix-socket", store.place, "http://red/metrics")[0] == 400, "nor who says nobody"
-    for it in ("GET /paths", "GET /metrics/x", "GET /metrics?x", "POST /metrics", "POST /collect", "GET /overview/day"):
-        assert status("prometheus", *it.split()) == 403, "the monitor may read nothing else, nor change anything"
+    for line in ("GET /paths", "GET /metrics/x", "GET /metrics?x", "POST /metrics", "POST /collect",
+                 "GET /overview/day"):
+        assert status("prometheus", *line.split()) == 403, "the monitor may read nothing else, nor change anything"
 
 
 def test_health(unit):
@@ -77,7 +78,7 @@ def test_health(unit):
 def test_the_record_of_changes(unit):
     """Each request that may change something is one line: who, when, what it names, and what came of it."""
     with unit() as store:
-        sent = lambda user, *it: ask(store.place, user, *it)
+        sent = lambda user, *words: ask(store.place, user, *words)
         path = sent("ann", "POST", "/text", text("one"))[1].decode().strip()
         base = path[11:]
         assert sent("ann", "GET", "/paths")[0] == 200, "a read"
@@ -94,15 +95,15 @@ def test_the_record_of_changes(unit):
         for user in ("ann", "build"):
             sent(user, "PUT", f"/{made[11:43]}.narinfo", record(made, archive, name))
         keys, records = ("user", "method", "route", "status", "paths"), store.records()
-        assert [tuple(map(it.get, keys)) for it in records] == [
+        assert [tuple(map(entry.get, keys)) for entry in records] == [
             ("ann", "POST", "text", 200, [base]), ("ann", "POST", "root", 200, [base]),
             ("bob", "DELETE", "root", 403, []), ("eve", "POST", "collect", 403, []),
             ("bob", "POST", "delete", 403, [base]), ("build", "POST", "runtime", 200, [base]),
             ("bob", "POST", "other", 404, []), ("build", "PUT", "nar", 201, []),
             ("ann", "PUT", "record", 403, [made[11:]]), ("build", "PUT", "record", 200, [made[11:]])]
-        assert [records[it]["target"] for it in (2, 6)] == ["/root/user/ann/mine", '/x","user":"root'], "as they came"
+        assert [records[at]["target"] for at in (2, 6)] == ["/root/user/ann/mine", '/x","user":"root'], "as they came"
         assert records[0]["bytes"] == len(text("one")), "bytes are those of the body"
-        assert all(re.fullmatch(r"\d{4}-\d\d-\d\dT\d\d:\d\d:\d\d\.\d{3}\+00:00", it["time"]) for it in records)
+        assert all(re.fullmatch(r"\d{4}-\d\d-\d\dT\d\d:\d\d:\d\d\.\d{3}\+00:00", entry["time"]) for entry in records)
 
 
 def test_the_record_of_requests_that_do_nothing(unit):
@@ -115,11 +116,12 @@ def test_the_record_of_requests_that_do_nothing(unit):
             assert answer == (403, b"denied: other-site\n")
         spent, records = time.monotonic() - began, store.records()
         assert 1 <= len(records) <= 1 + spent < 40
-        assert {(it["user"], it["status"], len(it["target"])) for it in records} == {(None, 403, 300)}
+        assert {(entry["user"], entry["status"], len(entry["target"])) for entry in records} == {(None, 403, 300)}
         before = len(records)
         assert ask(store.place, "ann", "POST", "/" + "x" * 3000, b"")[0] == 404
         parts.until("its line", lambda: len(store.records()) > before)
-        assert [(it["user"], len(it["target"])) for it in store.records()[before:]] == [("ann", 300)], "at once"
+        assert [(entry["user"], len(entry["target"]))
+                for entry in store.records()[before:]] == [("ann", 300)], "at once"
 
 
 def test_the_record_of_a_collection_of_many_paths(unit):
@@ -130,7 +132,7 @@ def test_the_record_of_a_collection_of_many_paths(unit):
         ask(store.place, "build", "DELETE", "/temp/build/4194304")
         freed = ask(store.place, "bob", "POST", "/collect")[1].decode().splitlines()[:-1]
         last = store.records()[-1]
-    assert (last["user"], last["paths"], last["more"]) == ("bob", [it[11:] for it in freed[:100]], len(freed) - 100)
+    assert (last["user"], last["paths"], last["more"]) == ("bob", [path[11:] for path in freed[:100]], len(freed) - 100)
     assert len(freed) > 100
 
 

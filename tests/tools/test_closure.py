@@ -42,7 +42,7 @@ class Nix(real.Nix):
 
     def infos(self):
         """What Nix says of each valid path."""
-        return {it["path"]: it for it in json.loads(self("nix", "path-info", "--all", "--json"))}
+        return {entry["path"]: entry for entry in json.loads(self("nix", "path-info", "--all", "--json"))}
 
     def add(self, path, contents, deriver, refs):
         """Registers an output, which nobody builds here."""
@@ -95,7 +95,7 @@ def line_of(what, sent, size, there):
 
 def is_the_object(nix, kept, path, info):
     """A store has the object with all that Nix says of it."""
-    record, base_of = objects.read_record(kept("info", path).decode()), lambda it: Path(it).name
+    record, base_of = objects.read_record(kept("info", path).decode()), lambda text: Path(text).name
     digest = nar.base32(base64.b64decode(info["narHash"].removeprefix("sha256-")))
     assert (nar.base32(record.nar_hash), record.nar_size, record.ca) == (digest, info["narSize"], info.get("ca"))
     assert record.refs == sorted(map(base_of, info["references"]))
@@ -231,10 +231,10 @@ def test_credentials_are_for_one_server(folder, monkeypatch):
 
     def users(to, *more):
         words = closure_command.parser().parse_args([*more, "copy", "--to", to, "0" * 32 + "-x"])
-        stores, found = closure_command.Stores(words, "/nix/store", 1), []
-        for it in ([] if words.db else [stores.first()]) + [stores.second()]:
-            found.append(it.server.credentials and it.server.credentials.user)
-        return found
+        stores, names = closure_command.Stores(words, "/nix/store", 1), []
+        for store in ([] if words.db else [stores.first()]) + [stores.second()]:
+            names.append(store.server.credentials and store.server.credentials.user)
+        return names
 
     red = "--server", "https://red.example"
     assert users("https://blue.example", *red) == ["ann", "bob"]
@@ -251,7 +251,8 @@ def test_what_only_a_trusted_user_may_import(made):
     file, _ = made.fresh()
     status, output, errors = closure(made.nix, *file.options(made.nix, "ann"), "push", made.top)
     denied = sorted(path for path, info in made.infos.items() if "ca" not in info)
-    assert (status, output, sorted(errors.splitlines())) == (4, "", [f"denied: trusted-import {it}" for it in denied])
+    assert (status, output, sorted(errors.splitlines())) == (
+        4, "", [f"denied: trusted-import {path}" for path in denied])
     assert file.lines("list") == [], "nothing was sent"
 
 
@@ -264,7 +265,7 @@ def test_archives_above_16_mib(made):
         nix.add(path, bytes(size - 112), "", [])
     nix.add(top, b"x", "", [*sizes])
     status, output, errors = closure(nix, *file.options(nix), "push", top)
-    wanted = [f"refused: 8 too-large {it} {sizes[it]} bytes" for it in (large, larger)]
+    wanted = [f"refused: 8 too-large {path} {sizes[path]} bytes" for path in (large, larger)]
     assert (status, output, sorted(errors.splitlines())) == (3, "", wanted)
     assert file.lines("list") == [], "nothing was sent of them"
     assert closure(nix, *file.options(nix), "push", fits) == (0, line_of("pushed", 1, LARGE, 0), "")
@@ -274,7 +275,7 @@ def test_a_file_without_room(made, kept, monkeypatch, capfd):
     """What has no room on its disk isn't begun, once what is unused inside the file is taken."""
     file, _ = made.fresh()
     free, real, place = [made.bytes - 1], os.statvfs, str(Path(file.path).parent)
-    seen = lambda it: types.SimpleNamespace(f_blocks=1, f_frsize=1, f_bavail=free[0]) if it == place else real(it)
+    seen = lambda path: types.SimpleNamespace(f_blocks=1, f_frsize=1, f_bavail=free[0]) if path == place else real(path)
     monkeypatch.setattr(os, "statvfs", seen)
     words = [CLOSURE, *kept.options(None), "copy", "--to", file.path, made.top]
 
@@ -444,7 +445,7 @@ def test_usage_errors(words, program, folder):
 def test_words_that_are_refused(made, kept):
     own = ["--db", kept.path, "--program", made.program]
     assert closure(None, *own, "pull", "no-path") == (3, "", "refused: 14 bad-store-path no-path\n")
-    status, output, errors = closure(None, *own, "pull", *(f"{it}/store/{'0' * 32}-a" for it in ("/nix", "/a")))
+    status, output, errors = closure(None, *own, "pull", *(f"{top}/store/{'0' * 32}-a" for top in ("/nix", "/a")))
     assert (status, output) == (3, "") and errors.startswith("refused: 14 ")
     assert closure(None, "push", "a")[0] == 3, "no store"
     for kind in ("root", "permanent", "profile"):

@@ -129,7 +129,7 @@ def test_a_step_of_each_kind(pytest_ran):
 
 def test_pages_by_bin_run(ran):
     status, said = ran("bin/run", "tests/cases/kinds.txt", "tests/cases/who.txt")
-    passed = sum(not it.only_prepares() for it in steps_of(Path(f"{HERE}/tests/cases/who.txt").read_text()))
+    passed = sum(not step.only_prepares() for step in steps_of(Path(f"{HERE}/tests/cases/who.txt").read_text()))
     assert (status, said.splitlines()[-1]) == (1, f"{passed + 1} passed, 2 failed, 1 skipped"), said
     assert re.findall("^skipped: .*", said, re.M) == ["skipped: kinds.txt, line 9: without no-such-tool"]
 

@@ -43,14 +43,15 @@ def test_words_of_a_hostile_server_in_completion(folder):
     hostile = ["$(touch ran)", "`touch ran`", "${x:=$(touch ran)}", "$HOME", "~root", "a{b,c}", ";touch ran",
                "'$(touch ran)'", "$[$(touch ran)]", "\\$(touch ran)", "<(touch ran)", "a b", "\r", "\x9b2J",
                "\x1b]0;title\x07", "\x1b[2J"]
-    lines = [path, *hostile, *(f"/nix/store/{it}" for it in hostile), *(f"{path}{it}" for it in hostile), "-rf", "a"]
-    Path(folder, "lines").write_text("".join(f"{it}\n" for it in lines), encoding="latin-1")
+    lines = [path, *hostile, *(f"/nix/store/{name}" for name in hostile),
+             *(f"{path}{name}" for name in hostile), "-rf", "a"]
+    Path(folder, "lines").write_text("".join(f"{line}\n" for line in lines), encoding="latin-1")
     file_of(folder, "nixkeep-remote", f"#!/bin/sh\ncat '{folder}/lines'\n", 0o755)
     env = {**os.environ, "PATH": f"{folder}:{os.environ['PATH']}"}
     for words in (["info", ""], ["why", "/"], ["root", "name", ""], ["profile", "set", "name", ""], ["delete", ""],
                   ["temp", "add", "7", ""], ["add-text", "name", ""]):
         offered = completed("nixkeep-remote", *words, env=env, cwd=folder)
-        assert [it for it in offered if it[:2] != "--"] == [path], words
+        assert [word for word in offered if word[:2] != "--"] == [path], words
     assert sorted(os.listdir(folder)) == ["lines", "nixkeep-remote"], "nothing was run"
 
 

@@ -121,9 +121,9 @@ def test_the_units_of_the_package(installed):
     units = [*Path(f"{installed[0]}/lib/systemd/system").iterdir()]
     assert units
     for unit in units:
-        lines = [it for it in unit.read_text().splitlines() if not it.startswith("#")]
-        assert [it for it in lines if "/usr/" in it] == [], unit.name
-        for line in (it for it in lines if it.startswith("Exec")):
+        lines = [line for line in unit.read_text().splitlines() if not line.startswith("#")]
+        assert [line for line in lines if "/usr/" in line] == [], unit.name
+        for line in (setting for setting in lines if setting.startswith("Exec")):
             assert os.access(line.partition("=")[2].lstrip("-+").split()[0], os.X_OK), line
 
 
@@ -137,7 +137,7 @@ def container():
     """The instructions of the file, each with its words as one text."""
     lines = re.sub(r"\\\n", " ", Path(CONTAINER).read_text()).splitlines()
     pairs = [tuple(line.split(" ", 1)) for line in lines if line and not line.startswith("#")]
-    assert {it for it, _ in pairs} <= INSTRUCTIONS
+    assert {name for name, _ in pairs} <= INSTRUCTIONS
     return dict(pairs)
 
 
@@ -158,9 +158,9 @@ def here(text, folder, port):
     """A command of the image in the form of a list, after the options of a check of health, as it runs in this
     checkout: its folders and its port are others."""
     words = []
-    for it in json.loads(text[text.index("[") :]):
-        it = it.replace("/etc/nixkeep/store.toml", f"{folder}/store.toml").replace("/store/", f"{folder}/")
-        words.append(it.replace("0.0.0.0:8081", f"127.0.0.1:{port}").replace(":8081", f":{port}"))
+    for word in json.loads(text[text.index("[") :]):
+        word = word.replace("/etc/nixkeep/store.toml", f"{folder}/store.toml").replace("/store/", f"{folder}/")
+        words.append(word.replace("0.0.0.0:8081", f"127.0.0.1:{port}").replace(":8081", f":{port}"))
     return words
 
 
@@ -169,7 +169,7 @@ def test_the_check_of_health(container, program, folder):
     Path(f"{folder}/store.toml").write_text(CONFIGURATION)
     environment = {**os.environ, "PATH": f"{HERE}/tools:{os.environ['PATH']}"}
     port = parts.free_port()
-    served, health = (here(container[it], folder, port) for it in ("CMD", "HEALTHCHECK"))
+    served, health = (here(container[key], folder, port) for key in ("CMD", "HEALTHCHECK"))
     with subprocess.Popen([*served, "--nixkeep", program], env=environment) as running:
         try:
             for _ in range(300):

@@ -22,6 +22,7 @@ from pathlib import Path
 import pytest
 
 from nixkeep_dev.build.program import HERE
+from nixkeep_dev.model import archives
 from nixkeep_dev.model.tables import TABLES, columns_of, making
 from nixkeep_dev.testing.nar import STORE, hidden
 from nixkeep_dev.testing.requests import text as text_body
@@ -34,8 +35,8 @@ from tests.tools.explained import BAD_SCHEMA, EXPLAIN, change_bytes, explained, 
 # ---- planted faults
 
 FAULTY = Faulty()
-NAMED = {**{getattr(FAULTY, it): f"{{{it}}}" for it in ("low", "top", "drv", "own", "out", "gone")},
-         **{hidden(it): f"{{{it}}}" for it in FAULTY.lengths}, "a" * 257: "{257 a}", "a" * 65: "{65 a}"}
+NAMED = {**{getattr(FAULTY, name): f"{{{name}}}" for name in ("low", "top", "drv", "own", "out", "gone")},
+         **{hidden(name): f"{{{name}}}" for name in FAULTY.lengths}, "a" * 257: "{257 a}", "a" * 65: "{65 a}"}
 
 
 def expectations(name):
@@ -44,7 +45,7 @@ def expectations(name):
     return {part.split("\n")[0]: [line.strip() for line in part.split("\n")[1:]] for part in parts}
 
 
-FAULTS, SCHEMAS, OTHERS = (expectations(f"explain_{it}.txt") for it in ("faults", "schemas", "others"))
+FAULTS, SCHEMAS, OTHERS = (expectations(f"explain_{kind}.txt") for kind in ("faults", "schemas", "others"))
 
 
 def are_lines(lines, wanted):
@@ -110,7 +111,7 @@ def test_each_fault_of_the_table_is_planted():
 def difference(text):
     """What a schema has that isn't among the tables of the third, or which of these it has."""
     text = text.replace(BEFORE, "")
-    extra = [it.strip() for it in statements(text) if it not in {*statements(ALL)}]
+    extra = [statement.strip() for statement in statements(text) if statement not in {*statements(ALL)}]
     return " ".join(extra) or " ".join(["only", *sorted(table for table in TABLES if making(table) in text)])
 
 
@@ -136,7 +137,7 @@ def test_each_schema_of_the_table_is_planted():
 THEIRS = "CREATE TABLE t (a INTEGER PRIMARY KEY, b TEXT); INSERT INTO t VALUES (1, 'x'); CREATE TABLE u (a TEXT);"
 
 
-@pytest.mark.parametrize("text", [it for it in OTHERS if not it.startswith("#")])
+@pytest.mark.parametrize("text", [text for text in OTHERS if not text.startswith("#")])
 def test_what_other_programs_have(nixkeep, folder, text):
     """Tables, settings and header bytes."""
     path, first = f"{folder}/others.db", "".join(re.findall("PRAGMA [^;]*;", text))
@@ -166,8 +167,8 @@ def change_row(rng, path):
         at = rng.randrange(len(values))
         column = columns_of(table)[at]
         other = rng.choice(rows)[at + 1]
-        changed = {int: lambda it: it + rng.choice([-1, 1, 10_000]), str: lambda it: it[:-1] + rng.choice("ax. /"),
-                   bytes: lambda it: it[:-1] + bytes([rng.randrange(256)]), type(None): lambda it: "x"}
+        changed = {int: lambda old: old + rng.choice([-1, 1, 10_000]), str: lambda old: old[:-1] + rng.choice("ax. /"),
+                   bytes: lambda old: old[:-1] + bytes([rng.randrange(256)]), type(None): lambda old: "x"}
         value = rng.choice([other, changed[type(values[at])](values[at])])
         with contextlib.suppress(sqlite3.IntegrityError):
             conn.execute(f"UPDATE {table} SET {column} = ? WHERE rowid = ?", (value, rowid))
@@ -319,6 +320,26 @@ def test_a_log_of_other_pages(nixkeep, path, size, more, is_refused):
     assert (f"has pages of {size} bytes, and the file has others" in output) == is_refused
 
 
+def test_a_folder_with_a_long_name(nixkeep, folder):
+    """A name has as many bytes as an archive has room for, and is in the paths of all that is in its folder. The test
+    of such an archive takes hardly longer than that of one whose bytes are elsewhere: else a user could have the test
+    of a copy take hours, so that there are no copies."""
+    entries = [archives.spell(b"entry", b"(", b"name", b"%07d" % at, b"node", b"(", b"type", b"symlink", b"target",
+                              b"x", b")", b")") for at in range(8_000)]
+    long, took = b"n" * (6 << 20), {}
+    for name, target in ((b"n", long), (long, b"n")):
+        link = [b"entry", b"(", b"name", b"z", b"node", b"(", b"type", b"symlink", b"target", target, b")", b")"]
+        head = [b"nix-archive-1", b"(", b"type", b"directory", b"entry", b"(", b"name", name, b"node"]
+        archive = archives.spell(*head, b"(", b"type", b"directory")
+        archive += b"".join(entries) + archives.spell(b")", b")", *link, b")")
+        path = f"{folder}/{len(name)}.db"
+        assert nixkeep(path, "add-source", "long", given=archive)[2] == 0
+        began = time.monotonic()
+        assert explained(path)[1] == 0
+        took[name] = time.monotonic() - began
+    assert took[long] < 2 + 3 * took[b"n"], took.values()
+
+
 def test_a_journal_that_names_a_file(path, folder):
     """SQLite would delete that file, whichever it is. The tools leave it, and say so."""
     Path(named := f"{folder}/na\nmed").write_text("any")
@@ -400,7 +421,8 @@ def test_a_full_disk(path):
 
 @pytest.mark.parametrize("name", ["man/nixkeep-explain.1", "completion/nixkeep-explain.bash"])
 def test_each_option_is_in(name):
-    options = [it for action in explain.parser()._actions for it in action.option_strings if it.startswith("--")]
+    options = [option for action in explain.parser()._actions for option in action.option_strings
+               if option.startswith("--")]
     text = Path(HERE, name).read_text().replace("\\-", "-")
     assert [option for option in options if option not in text] == []
 
@@ -409,9 +431,9 @@ def test_a_file_and_its_folder_are_left_alone(program, folder):
     """Also where the rows are in the log alone."""
     path = f"{folder}/store.db"
     killed(program, path, [("root", "POST", "/text", text_body("t", b"text"))])
-    before = {it.name: it.read_bytes() for it in sorted(Path(folder).iterdir())}
+    before = {file.name: file.read_bytes() for file in sorted(Path(folder).iterdir())}
     says([path], f"{path}: sound: 1 object of 120 bytes in {STORE}, schema 3", 0)
-    assert {it.name: it.read_bytes() for it in sorted(Path(folder).iterdir())} == before
+    assert {file.name: file.read_bytes() for file in sorted(Path(folder).iterdir())} == before
 
 
 # ---- its log
@@ -491,9 +513,9 @@ def from_sqlite(folder, path):
         objects = conn.execute("SELECT count(*) FROM object").fetchone()[0] if is_made else 0
     remove(copied)
     heads = [log[at:at + 24] for at in range(32, len(log) - 4119, 4120)]
-    written = max((at for at, it in enumerate(heads, 1) if it[8:16] == log[16:24]), default=0)
+    written = max((at for at, head in enumerate(heads, 1) if head[8:16] == log[16:24]), default=0)
     left = heads[used:max(written, used)]
-    return len(left), sum(it[4:8] != bytes(4) for it in left), objects
+    return len(left), sum(head[4:8] != bytes(4) for head in left), objects
 
 
 def by_itself(path):

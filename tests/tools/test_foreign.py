@@ -50,18 +50,19 @@ def stops(work, wanted):
 
 
 RECORDS = {
-    "references without an end": (lambda it: record(it, [base(int(it[BEFORE:]) + 1)]), f"more than {OBJECTS} objects"),
-    "many of them": (lambda it: record(it, [base(int(it[BEFORE:]) * 4000 + at) for at in range(1, 4001)]),
+    "references without an end": (lambda name: record(name, [base(int(name[BEFORE:]) + 1)]),
+                                  f"more than {OBJECTS} objects"),
+    "many of them": (lambda name: record(name, [base(int(name[BEFORE:]) * 4000 + at) for at in range(1, 4001)]),
                      f"more than {OBJECTS} objects"),
-    "more references than an object may have": (lambda it: record(it, map(base, range(objects.REFERENCES + 1))),
+    "more references than an object may have": (lambda name: record(name, map(base, range(objects.REFERENCES + 1))),
                                                 "isn't the record"),
-    "the same one again and again": (lambda it: record(it, [base(int(it[BEFORE:]) + 1)] * 4000),
+    "the same one again and again": (lambda name: record(name, [base(int(name[BEFORE:]) + 1)] * 4000),
                                      "more than 20000 references"),
-    "a size of 30 digits": (lambda it: record(it, size="9" * 30), "isn't the record"),
-    "a size below none": (lambda it: record(it, size=-1), "isn't the record"),
-    "a deriver that is no path": (lambda it: record(it, more="Deriver: ../../x\n"), "isn't the record"),
-    "bytes that are no text": (lambda it: record(it) + b"\xff", "isn't the record"),
-    "one of a store": (lambda it: record(it, [it]), None),
+    "a size of 30 digits": (lambda name: record(name, size="9" * 30), "isn't the record"),
+    "a size below none": (lambda name: record(name, size=-1), "isn't the record"),
+    "a deriver that is no path": (lambda name: record(name, more="Deriver: ../../x\n"), "isn't the record"),
+    "bytes that are no text": (lambda name: record(name) + b"\xff", "isn't the record"),
+    "one of a store": (lambda name: record(name, [name]), None),
 }
 
 
@@ -239,7 +240,31 @@ def test_blobs_of_other_stores_in_a_bucket(bucket):
     keys = [f"p/{blobs.key_of(NAMES[0])}", f"p/q/{blobs.key_of(NAMES[1])}", f"q/{blobs.key_of(NAMES[2])}",
             f"p/x{blobs.key_of(NAMES[3])}", f"p/{NAMES[4]}.nar.zst", f"p//{blobs.key_of(NAMES[5])}"]
     with answering(lambda *_: listing(keys)) as url:
-        assert [it.name for it in bucket(url).list()] == NAMES[:1]
+        assert [blob.name for blob in bucket(url).list()] == NAMES[:1]
+
+
+def test_a_bucket_that_has_for_a_while_what_was_deleted(bucket, monkeypatch):
+    """As one of many machines may. It is gone at once here, and uploaded anew, since it will be gone there, too."""
+    from nixkeep_tools import blobs_bucket
+
+    asked = []
+
+    def reply(method, target, _):
+        asked.append(method)
+        if method == "GET" and "list-type" in target:
+            return listing([f"p/{blobs.key_of(name)}" for name in NAMES[:3]])
+        return (204, OCTETS, b"") if method == "DELETE" else (200, OCTETS, b"" if method == "PUT" else BLOB)
+
+    monkeypatch.setattr(blobs_bucket, "GONE", 1)
+    with answering(reply) as url:
+        place = bucket(url)
+        assert (place.size(NAMES[0]), place.put(__file__, NAMES[0])) == (len(BLOB), False)
+        for name in NAMES[:2]:
+            place.delete(name)
+        assert [blob.name for blob in place.list()] == [NAMES[0], NAMES[2]], "as many as are remembered"
+        assert place.size(NAMES[1]) is None and "PUT" not in asked
+        assert place.put(__file__, NAMES[1]) and asked[-1] == "PUT"
+        assert place.size(NAMES[1]) == len(BLOB) and not place.put(__file__, NAMES[1])
 
 
 # What a bucket answers to all.

@@ -64,11 +64,11 @@ def test_base_32(rng, many, size):
 @pytest.mark.parametrize("kind", ["plain_name", "store_name", "store_dir", "label"])
 def test_texts_of_a_kind(rng, many, kind):
     by_tool, by_model = getattr(paths, f"is_{kind}"), getattr(texts, f"is_{kind}")
-    limits = [it + more for it in (64, 200, 211, 256) for more in (-1, 0, 1)]
+    limits = [limit + more for limit in (64, 200, 211, 256) for more in (-1, 0, 1)]
     known = ["", ".", "..", ".-a", "..-a", "...", ".a", "-a", "/", "//", "/.", "/..", "/a/", "/a//b", *STORES]
     known += [text * (size // len(text)) for text in ("a", "/a", "~") for size in limits]
     drawn = [*(some_text(rng, [1, 2, 3, 8]) for _ in range(many)), *(some_text(rng, limits) for _ in known)]
-    for text in [*known, *drawn, *(f"/{it.replace('@', '/')}" for it in drawn)]:
+    for text in [*known, *drawn, *(f"/{name.replace('@', '/')}" for name in drawn)]:
         assert by_tool(text) == by_model(text), repr(text)
 
 
@@ -105,11 +105,11 @@ def some_node(rng, depth):
         return kind, rng.choice(ENTRIES)
     # (most are in order, and each once)
     names = rng.sample(ENTRIES, rng.randrange(4))
-    return kind, [(it, some_node(rng, depth - 1)) for it in rng.choice([sorted(names)] * 9 + [names])]
+    return kind, [(name, some_node(rng, depth - 1)) for name in rng.choice([sorted(names)] * 9 + [names])]
 
 
 def by_tool(data, size):
-    return "".join(f"{it}\n" for it in nar.listing(data[at:at + size] for at in range(0, len(data), size)))
+    return "".join(f"{line}\n" for line in nar.listing(data[at:at + size] for at in range(0, len(data), size)))
 
 
 def test_archives(rng, many):
@@ -139,7 +139,7 @@ def some_output(rng, store):
     path = f"{store}/{texts.base32(rng.randbytes(20))}-{rng.choice(['a', 'b+', some_text(rng, [1, 2])])}"
     path = rng.choice([path] * 12 + ["", path[1:], f"/x{path}"])
     name = rng.choice(["out", "dev", "lib", "man", some_text(rng, [1, 2])])
-    return [it.encode("latin-1") for it in (name, path, "", "r:sha256")]
+    return [text.encode("latin-1") for text in (name, path, "", "r:sha256")]
 
 
 def test_derivations(rng, many):

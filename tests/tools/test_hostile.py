@@ -47,15 +47,15 @@ def bytes_of(sent, fields, path):
     root += given
     data = sent.encode().decode("unicode_escape").encode("latin-1")
     many = b"".join(b"x-%d: y\r\n" % at for at in range(500))
-    for word, it in ((b"{}", fields), (b"{root}", root), (b"{r}", b"%d" % len(root)), (b"{path}", given),
-                     (b"{n}", b"%d" % len(given)), (b"{long}", b"a" * 70_000), (b"{fields}", many)):
-        data = data.replace(word, it)
+    for word, value in ((b"{}", fields), (b"{root}", root), (b"{r}", b"%d" % len(root)), (b"{path}", given),
+                        (b"{n}", b"%d" % len(given)), (b"{long}", b"a" * 70_000), (b"{fields}", many)):
+        data = data.replace(word, value)
     return data + LAST % fields
 
 
 def replies(stream):
     """The statuses of the replies that come until the connection ends."""
-    text, found = b"", []
+    text, statuses = b"", []
     with contextlib.suppress(OSError):
         while part := stream.recv(65_536):
             text += part
@@ -63,19 +63,19 @@ def replies(stream):
         head, _, left = text.partition(b"\r\n\r\n")
         status = re.match(rb"HTTP/\d\.\d (\d{3})", head)
         if not status:
-            return [*found, "other"]
-        found.append(status[1].decode())
+            return [*statuses, "other"]
+        statuses.append(status[1].decode())
         length = re.search(rb"^content-length: *(\d+)", head, re.I | re.M)
-        size = 0 if b"HEAD" in found or not length else int(length[1])
+        size = 0 if b"HEAD" in statuses or not length else int(length[1])
         is_chunked = re.search(rb"^transfer-encoding: *chunked", head, re.I | re.M)
         text = left.partition(b"0\r\n\r\n")[2] if is_chunked else left[size:]
         if length and text and not text.startswith(b"HTTP/"):
             # (the reply to HEAD has a length and no body)
             text = left
-    return found
+    return statuses
 
 
-def asked(connect, data):
+def replies_to(connect, data):
     with connect() as stream:
         stream.settimeout(100)
         with contextlib.suppress(OSError):
@@ -86,7 +86,7 @@ def asked(connect, data):
 def answers(connect, fields, path):
     """Sends all rows at once on a few connections: what comes to each, by its line."""
     with ThreadPoolExecutor(8) as pool:
-        return dict(zip(ROWS, pool.map(lambda it: asked(connect, bytes_of(it[2], fields, path)), ROWS.values())))
+        return dict(zip(ROWS, pool.map(lambda row: replies_to(connect, bytes_of(row[2], fields, path)), ROWS.values())))
 
 
 # ---- what runs
@@ -115,7 +115,7 @@ def by_nginx(site, path):
         return tls.wrap_socket(plain, server_hostname="red.localhost", suppress_ragged_eofs=True)
 
     came, build = answers(connect, HOST + LOGIN, path), site.user("build")
-    return came, build("GET", "/roots"), sorted(it.rpartition("-")[2] for it in build.listed())
+    return came, build("GET", "/roots"), sorted(base.rpartition("-")[2] for base in build.listed())
 
 
 @pytest.fixture(scope="module")
@@ -144,7 +144,7 @@ BY_PROGRAM = {"https://green.localhost": ["close"], "Bearer ": ["200,404", "401,
 @pytest.mark.parametrize("line", ROWS)
 def test_through_nginx(line, site, by_nginx):
     wanted, _, sent = ROWS[line]
-    differs = [it for key, it in BY_PROGRAM.items() if site.by_program and key in sent]
+    differs = [other for key, other in BY_PROGRAM.items() if site.by_program and key in sent]
     assert by_nginx[0][line] in (differs or [wanted])[0], sent
 
 
@@ -185,10 +185,10 @@ def test_a_stranger_gets_nothing_that_nginx_keeps(what, site, path):
     target = archive if what == "an archive" else f"/{path[11:43]}.narinfo"
     assert [ann("GET", target)[0] for _ in range(2)] == [200] * 2, "nginx keeps it"
     tag = f'"{archive.split("/")[2]}"'
-    for it in CONDITIONS:
-        assert eve("GET", target, None, "-H", it.replace("%s", tag)) == (403, b"denied: connect\n"), it
-    for it in ("POST", "PUT", "DELETE", "PURGE", "PROPFIND"):
-        assert eve(it, target, b"")[0] == 403, it
+    for method in CONDITIONS:
+        assert eve("GET", target, None, "-H", method.replace("%s", tag)) == (403, b"denied: connect\n"), method
+    for method in ("POST", "PUT", "DELETE", "PURGE", "PROPFIND"):
+        assert eve(method, target, b"")[0] == 403, method
 
 
 # What a stranger may send, each with a target that is much longer than a line of the log may be.
@@ -209,8 +209,8 @@ STRANGERS = {
 @pytest.fixture
 def logs(site):
     """How many bytes are in nginx's logs."""
-    return lambda: sum(it.stat().st_size for it in [*Path(f"{site.folder}/log").iterdir(),
-                                                    Path(f"{site.folder}/nginx.log")])
+    return lambda: sum(file.stat().st_size for file in [*Path(f"{site.folder}/log").iterdir(),
+                                                        Path(f"{site.folder}/nginx.log")])
 
 
 @pytest.mark.parametrize("what", STRANGERS)

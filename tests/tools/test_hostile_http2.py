@@ -120,9 +120,9 @@ def test_streams_at_once(connect):
     made = connect()
     assert made.status(fields()) == 200
     assert made.most == 32
-    asked = [made.ask(fields(b"POST", b"/text"), ends=False) for _ in range(40)]
-    assert made.until(lambda: {*asked[32:]} <= {*made.streams} or made.is_closed)
-    assert {made.streams.get(it) for it in asked[32:]} == {"reset"}
+    numbers = [made.ask(fields(b"POST", b"/text"), ends=False) for _ in range(40)]
+    assert made.until(lambda: {*numbers[32:]} <= {*made.streams} or made.is_closed)
+    assert {made.streams.get(number) for number in numbers[32:]} == {"reset"}
 
 
 def test_streams_that_are_reset(site, connect):

@@ -32,7 +32,7 @@ def site(request, program):
 def nginx(site, *changes):
     """nginx, with texts of its files replaced by others."""
     files = [Path(site.folder, "nginx.conf"), *Path(site.folder, "snippets").iterdir()]
-    before = {it: it.read_text() for it in files}
+    before = {file: file.read_text() for file in files}
     changes = [("/red.socket;", "/nobody.socket;"), *changes]
     assert [old for old, _ in changes if not any(old in value for value in before.values())] == []
     for file, text in before.items():
@@ -54,8 +54,8 @@ def statuses(site, target, logins):
     plain = socket.create_connection(("127.0.0.1", site.port))
     connection.sock = tls.wrap_socket(plain, server_hostname=name)
     with contextlib.closing(connection):
-        for it in logins:
-            field = f"Basic {base64.b64encode(it.encode()).decode()}"
+        for login in logins:
+            field = f"Basic {base64.b64encode(login.encode()).decode()}"
             connection.request("GET", target, headers={"authorization": field})
             with connection.getresponse() as reply:
                 reply.read()
@@ -68,7 +68,7 @@ def test_names_that_strangers_give_keep_nobody_from_dear_questions(site):
     with nginx(site, ("zone=nixkeep_dear:10m", "zone=nixkeep_dear:32k"), ("auth_delay           200ms;", "")):
         names = [f"{at:0100}:wrong" for at in range(150)] + [f"{at}:wrong" for at in range(50)]
         assert [*statuses(site, "/paths", names)] == [401] * 200
-        assert [site.user(it)("GET", "/paths")[0] for it in ("ann", "bob")] == [PASSED] * 2
+        assert [site.user(name)("GET", "/paths")[0] for name in ("ann", "bob")] == [PASSED] * 2
 
 
 def test_dear_questions_have_a_limit(site):
@@ -78,7 +78,7 @@ def test_dear_questions_have_a_limit(site):
     with nginx(site, ("rate=5r/s", "rate=1r/m"), ("burst=100 delay=20", "burst=1 nodelay")):
         ann = site.user("ann")
         assert [ann("GET", "/paths")[0] for _ in range(3)] == [PASSED, PASSED, 429]
-        assert {it: ann("GET", it)[0] for it in dear} == dict.fromkeys(dear, 429)
+        assert {target: ann("GET", target)[0] for target in dear} == dict.fromkeys(dear, 429)
         assert ann("GET", "/who")[0] == PASSED
 
 
@@ -105,10 +105,10 @@ def test_links_of_other_sites_try_few_passwords(site):
     log = Path(f"{site.folder}/log/nixkeep.log")
     with nginx(site, ("zone=nixkeep_links burst=20", "zone=nixkeep_links burst=2")):
         wrong, before = site.user("ann", password="wrong"), log.stat().st_size
-        asked = lambda it: wrong("GET", "/x", None, *(["-H", f"sec-fetch-site: {it}"] if it else []))[0]
+        guess = lambda where: wrong("GET", "/x", None, *(["-H", f"sec-fetch-site: {where}"] if where else []))[0]
         sites = ["cross-site", "same-site", "x", "none, cross-site", "None"]
-        assert [asked(it) for it in sites] == [401, 401, 401, 429, 429]
-        assert [asked(it) for it in ("", "none", "same-origin")] == [401] * 3
+        assert [guess(where) for where in sites] == [401, 401, 401, 429, 429]
+        assert [guess(where) for where in ("", "none", "same-origin")] == [401] * 3
         ahead = "-H", "sec-fetch-site: none", "-H", "sec-purpose: prefetch"
         assert wrong("GET", "/x", None, *ahead)[0] == 429, "what a page has fetched ahead comes from no page"
         assert site.user("ann")("GET", "/x", None, "-H", "sec-fetch-site: none")[0] == PASSED
@@ -136,9 +136,10 @@ def test_a_network_of_ipv6_is_one_address(site):
     with nginx(site, seen, ("rate=200r/s", "rate=1r/m"), ("burst=600 delay=500", "burst=2 nodelay")):
         wrong, before = site.user("ann", password="wrong"), log.stat().st_size
         for one in NETWORKS.values():
-            assert [wrong("GET", "/x", None, "-H", f"x-seen: {it}")[0] for it in one] == [401, 401, 401, 429], one
+            assert [wrong("GET", "/x", None, "-H", f"x-seen: {address}")[0]
+                    for address in one] == [401, 401, 401, 429], one
         parts.until("the lines", lambda: log.read_bytes()[before:].count(b"\n") == 3 * len(NETWORKS))
         lines = map(json.loads, log.read_bytes()[before:].splitlines())
-        assert [line["network"] for line in lines] == [it for it in NETWORKS for _ in range(3)]
+        assert [line["network"] for line in lines] == [network for network in NETWORKS for _ in range(3)]
         others = ["192.0.2.2", "::ffff:192.0.2.8", "2001:db8:1:4::1", "2001:db9::1"]
-        assert [wrong("GET", "/x", None, "-H", f"x-seen: {it}")[0] for it in others] == [401] * 4
+        assert [wrong("GET", "/x", None, "-H", f"x-seen: {address}")[0] for address in others] == [401] * 4

@@ -75,7 +75,7 @@ def zstd_of(data):
     return zstandard.ZstdCompressor(level=3).compress(data)
 
 
-PACK = {"none": bytes, "xz": lambda it: lzma.compress(it, preset=0), "zstd": zstd_of}
+PACK = {"none": bytes, "xz": lambda data: lzma.compress(data, preset=0), "zstd": zstd_of}
 
 
 @pytest.mark.parametrize("compression", PACK)
@@ -86,7 +86,7 @@ def test_archives_become_blobs(compression):
     sent, out = PACK[compression](NOISE), io.BytesIO()
     made = blob_packing.packed(io.BytesIO(sent), compression, out, 1)
     file = out.getvalue()
-    hashes = [hashlib.sha256(it).digest() for it in (sent, NOISE, file)]
+    hashes = [hashlib.sha256(data).digest() for data in (sent, NOISE, file)]
     assert made == (hashes[0], hashes[1], len(NOISE), hashes[2], len(file))
     assert zstandard.ZstdDecompressor().stream_reader(file).read() == NOISE
     assert compression != "zstd" or file == sent, "it stays as it is"
@@ -134,12 +134,12 @@ def test_the_ends_of_frames():
                 ends += [end] if one.eof else []
             assert [end for end in range(1, len(data) + 1) if is_whole(data[:end], 7)] == ends == [len(data)]
     skipped = b"\x5a\x2a\x4d\x18\x05\0\0\0hello"
-    data = skipped + b"".join(made[3].compress(it) for it in texts[:4]) + skipped
+    data = skipped + b"".join(made[3].compress(part) for part in texts[:4]) + skipped
     bounds = [0, len(skipped)]
-    for it in texts[:4]:
-        bounds.append(bounds[-1] + len(made[3].compress(it)))
+    for part in texts[:4]:
+        bounds.append(bounds[-1] + len(made[3].compress(part)))
     assert [end for end in range(len(data) + 1) if is_whole(data[:end], 11)] == [*bounds, len(data)]
-    sizes = [len(it) for it in blob_packing.of_zstd(io.BytesIO(made[0].compress(bytes(64 << 20))))]
+    sizes = [len(piece) for piece in blob_packing.of_zstd(io.BytesIO(made[0].compress(bytes(64 << 20))))]
     assert (sum(sizes), max(sizes) <= 1 << 20) == (64 << 20, True), "64 MiB in a small file come in pieces"
 
 
@@ -200,7 +200,7 @@ def test_what_is_stored(served):
     fields, file = team.fields(path), team.file(archive).read_bytes()
     team.end()
     with contextlib.closing(sqlite3.connect(team.words[team.words.index("--db") + 1])) as conn:
-        made = next(it for it in conn.execute("SELECT * FROM object") if it[0] == path[11:])
+        made = next(row for row in conn.execute("SELECT * FROM object") if row[0] == path[11:])
     team.start()
     pointer = pointers.Pointer(path, hashlib.sha256(archive).digest(), len(archive), hashlib.sha256(file).digest(),
                                len(file))
@@ -208,9 +208,9 @@ def test_what_is_stored(served):
     wanted = {"StorePath": path, "Compression": "zstd", "NarSize": str(len(archive)), "FileSize": str(len(file)),
               "NarHash": nar.nar_hash(archive), "FileHash": nar.nar_hash(file),
               "References": " ".join(sorted(served.references)), "Deriver": served.deriver}
-    assert {it: fields.get(it) for it in wanted} == wanted
+    assert {key: fields.get(key) for key in wanted} == wanted
     old = team.fields(path, "-A", "curl/7.74.0 Nix/2.3.16")
-    assert [old[it] for it in ("Compression", "FileHash", "FileSize")] == [
+    assert [old[key] for key in ("Compression", "FileHash", "FileSize")] == [
         "none", wanted["NarHash"], wanted["NarSize"]], "Nix 2.3, which can't read zstd, gets it as it was"
 
 
@@ -301,8 +301,8 @@ def test_a_sweep(served):
     assert team.verify()[0] == 0, "all blobs are whole"
     team.end()
     old = time.time() - 100_000
-    for it in Path(team.blobs).glob("??/*"):
-        os.utime(it, (old, old))
+    for blob in Path(team.blobs).glob("??/*"):
+        os.utime(blob, (old, old))
     team.start()
     file, size = team.file(unused), team.file(unused).stat().st_size
     assert team.tool("sweep", "--dry-run") == (0, [f"would delete {file.name[:52]} {size}",
@@ -345,8 +345,8 @@ def test_a_closure_by_nix(compression, fixed, folder):
     made = here.outputs(here.texts(1, compression), [10, large, 200, 150_000], random.Random(3))
     here("nix", "copy", "--to", f"{url}?compression={compression}", made[-1])
     there("nix", "copy", "--from", f"{url}?trusted=true", made[-1])
-    assert all(there.archive(it) == here.archive(it) for it in made)
-    assert all(there.references(it) == here.references(it) for it in made)
+    assert all(there.archive(stored) == here.archive(stored) for stored in made)
+    assert all(there.references(stored) == here.references(stored) for stored in made)
     here.run("nix-store", "--delete", *made[1:])
     here("nix", "copy", "--from", f"{url}?trusted=true", made[-1])
     assert there.archive(made[1]) == here.archive(made[1]), "back in the first, which asks for the files that it sent"
@@ -374,7 +374,7 @@ def test_large_objects_by_closure_and_remote(fixed, folder, program):
     assert status == 0 and "pushed 4 objects" in said, said
     status, said = closure(there, *at, "pull", made[-1])
     assert status == 0 and "pulled 4 objects" in said, said
-    assert [there.archive(it) == here.archive(it) for it in made] == [True] * 3
+    assert [there.archive(stored) == here.archive(stored) for stored in made] == [True] * 3
     remote = lambda *words, **more: subprocess.run([f"{parts.TOOLS}/nixkeep-remote", *at, *words],
                                                    capture_output=True, **more).stdout
     assert remote("cat-nar", made[2]) == here.archive(made[2])

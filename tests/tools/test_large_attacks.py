@@ -62,7 +62,7 @@ def rng():
 def test_what_a_terminal_obeys_of_a_hostile_server(folder):
     """Paths that a server lists are printed without it."""
     digest = "sha256:" + "0" * 52
-    lines = [f"{it} {digest} 1 {digest} 1\n" for it in ("\x1b]0;title\x07", "\x1b[2J", "\x9b2J", "\u202eright")]
+    lines = [f"{name} {digest} 1 {digest} 1\n" for name in ("\x1b]0;title\x07", "\x1b[2J", "\x9b2J", "\u202eright")]
     with servers.answering(lambda *_: (200, "text/plain", "".join(lines).encode())) as url:
         words = [f"{HERE}/tools/nixkeep-cache", "verify", "--server", url, "--user", "ann", "--blobs", folder]
         status, output, errors = servers.ran(words)
@@ -73,7 +73,8 @@ def test_what_a_terminal_obeys_of_a_hostile_server(folder):
 def starts(team):
     """Whether nixkeep-cache starts, and what it says. It is ended."""
     with open(f"{team.folder}/start", "wb") as log:
-        words = [it for it in team.words if it != "--proxied"] + ["--user", "ann", "--listen", f"{team.folder}/other"]
+        words = [word for word in team.words if word != "--proxied"] + [
+            "--user", "ann", "--listen", f"{team.folder}/other"]
         running = subprocess.Popen(words, stdin=subprocess.DEVNULL, stdout=log, stderr=log)
     parts.until("it starts or ends", lambda: parts.is_open(f"{team.folder}/other") or running.poll() is not None)
     has_started = running.poll() is None
@@ -133,8 +134,8 @@ def test_what_is_no_file_in_the_place_of_a_blob(rng, team_of):
         assert status == 1 and named and lines[-1].startswith("verified "), (
             "verify names a blob that can't be read", lines)
         file.unlink()
-        unused = sorted((archive_of(rng) for _ in range(5)), key=lambda it: team.file(it).name)
-        assert {team.put(it)[0] for it in unused} == {201}, "archives whose records never come"
+        unused = sorted((archive_of(rng) for _ in range(5)), key=lambda other: team.file(other).name)
+        assert {team.put(other)[0] for other in unused} == {201}, "archives whose records never come"
         team.end()
         team.start()
         team.file(unused[1]).unlink()
@@ -156,15 +157,15 @@ def test_a_sweep_after_a_restore(aside, rng, team_of):
         assert team.import_("build", archive)[0] == 200
         team.end()
         os.mkdir(f"{team.folder}/{aside}")
-        for it in ("store.db", "store.db-wal"):
-            os.rename(f"{team.folder}/{it}", f"{team.folder}/{aside}/{it}")
+        for name in ("store.db", "store.db-wal"):
+            os.rename(f"{team.folder}/{name}", f"{team.folder}/{aside}/{name}")
         team.start()
         said = f"failed {aside}: a restore has left this folder, which may name any blob: delete it first"
         for words in ([], ["--dry-run"], ["--grace", "1"]):
             assert team.tool("sweep", *words) == (1, [said, "swept 0 blobs 0 bytes, kept 1"])
         team.end()
-        for it in ("store.db", "store.db-wal"):
-            os.rename(f"{team.folder}/{aside}/{it}", f"{team.folder}/{it}")
+        for name in ("store.db", "store.db-wal"):
+            os.rename(f"{team.folder}/{aside}/{name}", f"{team.folder}/{name}")
         os.rmdir(f"{team.folder}/{aside}")
         team.start()
         assert team("ann", "GET", f"/nar/{team.path(archive)[11:]}") == (200, archive), "the way back has all"
@@ -213,17 +214,17 @@ def test_uploads_sweeps_collections_and_kills_at_once(team_of):
 # ---- one reply to each request
 
 
-def asked(team, *targets):
+def replies_to(team, *targets):
     """What comes to requests on one connection: each status and text."""
     with contextlib.closing(http.client.HTTPConnection("red")) as connection, socket.socket(socket.AF_UNIX) as client:
         client.connect(team.place)
         connection.sock = client
-        found = []
-        for it in targets:
-            connection.request("GET", it, headers={"store-user": "ann"})
+        answers = []
+        for target in targets:
+            connection.request("GET", target, headers={"store-user": "ann"})
             reply = connection.getresponse()
-            found.append((reply.status, reply.read().decode()))
-        return found
+            answers.append((reply.status, reply.read().decode()))
+        return answers
 
 
 def test_a_long_record_of_a_large_archive(rng, team_of, folder):
@@ -233,9 +234,9 @@ def test_a_long_record_of_a_large_archive(rng, team_of, folder):
         named = [stores.put_text(conn, f"{at:03}{'n' * 200}", b"x") for at in range(280)]
     with team_of() as team:
         archive, path = archive_of(rng), some_path(rng, "wide")
-        lines = [("path", path), ("nar-hash", nar.nar_hash(archive)), *(("reference", it) for it in named)]
+        lines = [("path", path), ("nar-hash", nar.nar_hash(archive)), *(("reference", base) for base in named)]
         assert team("build", "POST", "/import", body(*lines, payload=archive))[0] == 200
-        (status, record), *others = asked(team, f"/info/{path[11:]}", "/who", f"/{path[11:43]}.narinfo")
+        (status, record), *others = replies_to(team, f"/info/{path[11:]}", "/who", f"/{path[11:43]}.narinfo")
         assert status == 200 and len(record) > cache_http.LARGE
         for text in (record, others[1][1]):
             assert f"\nNarHash: {nar.nar_hash(archive)}\nNarSize: {len(archive)}\n" in text

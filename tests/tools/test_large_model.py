@@ -197,8 +197,8 @@ def losing(lock, is_there, named, *works):
 @pytest.fixture(autouse=True)
 def quiet(monkeypatch):
     monkeypatch.setattr(blob_reading, "measured", measured)
-    for it in (cache_sweep, cache_blobs):
-        monkeypatch.setattr(it, "say", lambda _: None)
+    for module in (cache_sweep, cache_blobs):
+        monkeypatch.setattr(module, "say", lambda _: None)
 
 
 @pytest.mark.parametrize("scene", SCENES)

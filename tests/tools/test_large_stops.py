@@ -63,7 +63,7 @@ def test_a_damaged_blob(team, rng, folder):
     file.parent.rename(f"{team.folder}/elsewhere")
     file.parent.symlink_to(file.parent)
     said = get(url)[1], came[1]
-    assert not any(team.folder.encode() in it for it in said), ("no reply says where the blobs are", said)
+    assert not any(team.folder.encode() in text for text in said), ("no reply says where the blobs are", said)
     file.parent.unlink()
     Path(f"{team.folder}/elsewhere").rename(file.parent)
     status, lines = team.verify()
@@ -100,7 +100,7 @@ def test_uploads_at_once(team, rng):
     archive, path = archive_of(rng, 3_000_000), some_path(rng, "twice")
     many = [path, path, *(some_path(rng, f"more{at}") for at in range(4))]
     with concurrent.futures.ThreadPoolExecutor(6) as pool:
-        replies = [*pool.map(lambda it: team.upload(it, archive), many)]
+        replies = [*pool.map(lambda target: team.upload(target, archive), many)]
     assert {status for status, _ in replies} == {200}, "six uploads of an archive at once"
     assert len([*Path(team.blobs).glob(f"??/{team.file(archive).name}")]) == 1, "it is there once"
     is_sound(team)
@@ -250,7 +250,7 @@ def test_a_bucket_that_refuses_or_fails(status, code, rng, program, folder):
         assert team.upload(some_path(rng, "low"), nar.archive(b"low"))[0] == 200, "small objects are served"
         came = team.upload(path, archive)
         assert came[0] == 503 and code.encode() in came[1]
-        assert any(f"/archives/here/{blob_key(archive)}" in it for it in requests), "the digest is the blob's name"
+        assert any(f"/archives/here/{blob_key(archive)}" in text for text in requests), "the digest is the blob's name"
         assert team.fields(path)[0] == 404, "no pointer"
         assert os.listdir(f"{folder}/waiting/incoming") == [], "and no part"
 

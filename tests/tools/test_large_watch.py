@@ -60,7 +60,7 @@ def test_archives_that_come_and_go_and_fail(team, rng):
     assert team("ann", "GET", url)[0] == 502, "a damaged one"
     assert figures(team, *sends) == [2, len(archive) + 1000, 1], "two were sent, with these bytes, and one failed"
     spent = figures(team, "blobs_put_seconds_total", "blobs_sent_seconds_total")
-    assert all(it > 0 for it in spent), ("both took time", spent)
+    assert all(seconds > 0 for seconds in spent), ("both took time", spent)
 
 
 @needs_metrics

@@ -139,12 +139,12 @@ def test_two_runs_prove_each_crate_once(proved):
     Path(f"{proved.room}/holds-low").touch()
     two, said = [proved.start(), proved.start()], ""
     while "waiting for it" not in said:
-        ready = select.select([it.stderr for it in two], [], [], 300)[0]
+        ready = select.select([process.stderr for process in two], [], [], 300)[0]
         more = os.read(ready[0].fileno(), 10_000).decode() if ready else ""
         assert more, said
         said += more
     os.remove(f"{proved.room}/holds-low")
-    assert [it.communicate()[0] for it in two] == [ANSWER] * 2
+    assert [process.communicate()[0] for process in two] == [ANSWER] * 2
     assert started(proved.log()) == sorted(CRATES)
 
 

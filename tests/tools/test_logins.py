@@ -59,10 +59,10 @@ def test_the_program_gets_what_nginx_has_seen(target, site):
              "x-forwarded-proto: gopher", "x-forwarded-host: evil.example", "forwarded: for=10.0.0.1",
              "x-original-uri: /health", "x-original-url: https://evil.example/health", "x-original-method: OPTIONS",
              "x-forwarded-method: OPTIONS", "cookie: a=b"]
-    site.user("ann")("GET", target, None, *[it for word in words for it in ("-H", word)])
+    site.user("ann")("GET", target, None, *[option for word in words for option in ("-H", word)])
     (_, _, fields), = site.requests
     name = f"red.localhost:{site.port}"
-    assert {key: it for key, it in fields.items() if key.startswith("x-")} == {
+    assert {key: value for key, value in fields.items() if key.startswith("x-")} == {
         "x-real-ip": "127.0.0.1", "x-forwarded-for": "127.0.0.1", "x-forwarded-uri": target,
         "x-forwarded-proto": "https", "x-forwarded-host": name, "x-forwarded-method": "GET",
         "x-original-uri": target, "x-original-url": f"https://{name}{target}", "x-original-method": "GET"}
@@ -75,7 +75,7 @@ def test_the_program_gets_no_field_of_the_client_but_logins(site):
     del site.requests[:]
     words = ["x-ldap-url: ldap://evil.example", "x-cookiename: x", "x-forwarded-groups: builders", "user-agent: x",
              "x-auth-request-user: build", "cookie: a=b", "cookie: c=d", "range: bytes=0-0", "content-type: x"]
-    given = [it for word in words for it in ("-H", word)]
+    given = [option for word in words for option in ("-H", word)]
     assert who(site.user("ann"), *given) == ALLOWED
     (_, _, fields), = site.requests
     assert {key for key in fields if not key.startswith(("x-forwarded-", "x-original-"))} == {

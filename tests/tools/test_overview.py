@@ -48,19 +48,19 @@ def test_a_random_graph_next_to_a_walk_from_each_root(seed):
     rng = random.Random(seed)
     bases = [f"{nar.base32(rng.randbytes(20))}-n{at}" for at in range(30)]
     pick = lambda most: rng.sample(bases, rng.randrange(most))
-    objects = {it: store_file.Object(rng.randrange(1000), None, rng.choice([None, *bases]), None, pick(3),
-                                     dict(enumerate(pick(2)))) for it in bases}
+    objects = {base: store_file.Object(rng.randrange(1000), None, rng.choice([None, *bases]), None, pick(3),
+                                       dict(enumerate(pick(2)))) for base in bases}
     roots = [store_file.Root(rng.choice(["user", "profile"]), rng.choice(bases), f"r{at}", rng.choice("ab"), "n", at)
              for at in range(8)]
     keeps = rng.random() < 0.5, rng.random() < 0.5
     store = store_file.Store(3, "/nix/store", objects, roots, {})
     figures, kept = overview.Overview(store, *keeps), store_file.edges(store, *keeps)
-    reach = [reached(kept, it.target) for it in roots]
-    size = lambda some: sum(objects[it].size for it in some)
+    reach = [reached(kept, root.target) for root in roots]
+    size = lambda some: sum(objects[base].size for base in some)
     wanted = {}
-    for key in {(it.owner, it.kind) for it in roots}:
-        of = set().union(*(reach[at] for at, it in enumerate(roots) if (it.owner, it.kind) == key))
-        others = set().union(*(reach[at] for at, it in enumerate(roots) if (it.owner, it.kind) != key))
+    for key in {(root.owner, root.kind) for root in roots}:
+        of = set().union(*(reach[at] for at, root in enumerate(roots) if (root.owner, root.kind) == key))
+        others = set().union(*(reach[at] for at, root in enumerate(roots) if (root.owner, root.kind) != key))
         wanted[key] = size(of), size(of - others)
     assert {(line.owner, line.kind): tuple(line.usage) for line in figures.lines()} == wanted
     for root, used in figures.roots():
@@ -79,7 +79,7 @@ def test_a_random_graph_next_to_a_walk_from_each_root(seed):
 def most():
     """The seconds of the processor that figures may take: this machine may be slow, or busy."""
     began = time.process_time()
-    sum(it * it % 7 for it in range(STEPS))
+    sum(number * number % 7 for number in range(STEPS))
     return TIMES * (time.process_time() - began)
 
 
@@ -160,7 +160,7 @@ def test_8_000_roots_in_bounded_work_of_the_processor(folder):
     took = time.process_time() - began
     assert len(store.roots) > 8_000 and took < most(), f"less than {TIMES * STEPS:,} steps of Python"
     kept = store_file.edges(store)
-    size = lambda root: sum(store.objects[it].size for it in reached(kept, root.target))
+    size = lambda root: sum(store.objects[base].size for base in reached(kept, root.target))
     walked = {root.label: size(root) for root in store.roots[::400]}
     assert {root.label: used.all for root, used in figures.roots() if root.label in walked} == walked
 
@@ -170,11 +170,11 @@ def test_a_long_chain():
     from nixkeep_tools import overview_page
 
     bases = [f"{at:032}-step" for at in range(overview.DRAWN + 1)]
-    objects = {base: store_file.Object(1, None, None, None, [it for it in [to] if it], {})
+    objects = {base: store_file.Object(1, None, None, None, [target for target in [to] if target], {})
                for base, to in zip(bases, [*bases[1:], None])}
     root = store_file.Root("user", bases[0], "a label", "ann", "name", None)
     made = overview.Overview(store_file.Store(None, "/nix/store", objects, [root], {}))
-    long, short = (overview_page.page(made, why=it) for it in (bases[-1], bases[-2]))
+    long, short = (overview_page.page(made, why=base) for base in (bases[-1], bases[-2]))
     assert (long.count("<li "), "<svg" in long, "of more than 100 steps" in long) == (101, False, True)
     assert "of more than" not in short, "one of 100 steps may be drawn"
 
@@ -336,7 +336,7 @@ async def attacked(browser, site):
                 await asyncio.sleep(0.1)
             events = [event for event in browser.events if event.get("method") == "Network.responseReceived"]
             seen = [event["params"]["response"] for event in events]
-            statuses = [it["status"] for it in seen if it["url"].startswith(site.url)]
+            statuses = [response["status"] for response in seen if response["url"].startswith(site.url)]
             assert title.startswith("done") and len(statuses) >= 2 and set(statuses) <= {403, 405}, (
                 f"a page of {host} asks for a collection by a form and by a script, and is denied", title, statuses)
     assert site.get("build", "/paths") == before and before[1].split(), "nothing is deleted"
@@ -358,7 +358,7 @@ def browse():
     async def run(work, *words):
         async with aiohttp.ClientSession() as session:
             async with session.get(f"http://127.0.0.1:{port}/json/list") as reply:
-                target = next(it for it in await reply.json() if it["type"] == "page")
+                target = next(tab for tab in await reply.json() if tab["type"] == "page")
             async with session.ws_connect(target["webSocketDebuggerUrl"], max_msg_size=0) as socket:
                 browser = Browser(socket)
                 for domain in ("Page", "Runtime", "Log", "Network"):
@@ -372,16 +372,16 @@ def browse():
     with tempfile.TemporaryDirectory(ignore_cleanup_errors=True) as folder:
         words += [f"--remote-debugging-port={port}", f"--user-data-dir={folder}/chromium", "about:blank"]
         with parts.Part("chromium", words, port, f"{folder}/chromium.log"):
-            yield lambda *it: asyncio.run(run(*it))
+            yield lambda *given: asyncio.run(run(*given))
 
 
 @pytest.mark.parametrize("scheme", ["light", "dark"])
 @pytest.mark.parametrize("width", [390, 1280])
 @pytest.mark.parametrize("page", ["figures", "why", "day"])
 def test_a_page_in_a_browser(page, width, scheme, site, browse):
-    of_path = lambda it: f"/overview?why={it}"
+    of_path = lambda path: f"/overview?why={path}"
     targets = {"figures": "/overview", "day": "/overview/day",
-               "why": of_path(max(site.paths, key=lambda it: site.get("build", of_path(it))[1].count(b"<li")))}
+               "why": of_path(max(site.paths, key=lambda path: site.get("build", of_path(path))[1].count(b"<li")))}
     browse(looked_at, site.url + targets[page], width, scheme)
 
 
@@ -417,4 +417,4 @@ def test_a_drawing_that_fails(site, folder, monkeypatch):
     site.cache.start()
     texts = [site.get("build", f"/overview?why={path}")[1] for path in site.paths]
     kept = [text for text in texts if b"first root" in text]
-    assert kept and all(b"There is no drawing" in it and b"<svg" not in it for it in kept)
+    assert kept and all(b"There is no drawing" in text and b"<svg" not in text for text in kept)

@@ -26,7 +26,7 @@ from tests.tools.packed import pack, ran
 GREETING = "/nix/store/ybf7by4xvcgjhwilsg87rqz9di79bify-greeting"
 CONFIGURATION = "etc/nixkeep/store.toml"
 LIBRARIES = ("/lib64/ld-linux-x86-64.so.2", "/lib/x86_64-linux-gnu/libc.so.6")
-TOOLS = [it for it in layout.names_in("tools") if it.startswith("nixkeep-")]
+TOOLS = [name for name in layout.names_in("tools") if name.startswith("nixkeep-")]
 
 
 def greets(words):
@@ -63,7 +63,7 @@ def files(deb, shared_folder):
 
 
 def test_two_packages_have_the_same_bytes(both, given, folder):
-    assert [layout.sum_of(it) for it in pack(folder, given)] == [layout.sum_of(it) for it in both]
+    assert [layout.sum_of(file) for file in pack(folder, given)] == [layout.sum_of(file) for file in both]
 
 
 def test_the_archive_has_the_files_of_the_package(both):
@@ -73,11 +73,12 @@ def test_the_archive_has_the_files_of_the_package(both):
         entries = file.getmembers()
     top = entries[0].name
     lines = ran(["dpkg-deb", "-c", deb])[1].splitlines()
-    in_deb = sorted(it.split(maxsplit=5)[5].partition(" -> ")[0].removeprefix("./") for it in lines if it[0] != "d")
+    in_deb = sorted(line.split(maxsplit=5)[5].partition(" -> ")[0].removeprefix("./")
+                    for line in lines if line[0] != "d")
     assert sorted(entry.name.removeprefix(f"{top}/") for entry in entries if not entry.isdir()) == in_deb
     assert all(entry.uid == entry.gid == 0 for entry in entries)
     run_by = [line.split()[5] for line in lines if line[0] == "-" and "x" in line[:10] and "/examples/" not in line]
-    assert [it for it in run_by if not it.startswith(("./usr/bin/", "./usr/lib/"))] == []
+    assert [name for name in run_by if not name.startswith(("./usr/bin/", "./usr/lib/"))] == []
 
 
 def test_what_the_archive_has_runs_where_it_is_unpacked(both, folder):
@@ -121,7 +122,8 @@ def test_the_package_needs_what_the_tools_import(deb):
 def test_systemd_finds_no_fault_in_the_unit(files):
     """But that its program isn't installed on this machine."""
     said = ran(["systemd-analyze", "verify", f"{files}/usr/lib/systemd/system/nixkeep@.service"])[1].splitlines()
-    assert [it for it in said if "nixkeep" in it and "is not executable" not in it and "'man " not in it] == []
+    assert [line for line in said
+            if "nixkeep" in line and "is not executable" not in line and "'man " not in line] == []
 
 
 def calls_in(name):
@@ -181,9 +183,9 @@ class Root:
 
     def files(self):
         """The files and links below usr and etc."""
-        tops = [f"{self.root}/{it}" for it in ("usr", "etc")]
+        tops = [f"{self.root}/{top}" for top in ("usr", "etc")]
         paths = [f"{at}/{name}" for top in tops for at, _, names in os.walk(top) for name in names]
-        return sorted(str(Path(it).relative_to(self.root)) for it in paths)
+        return sorted(str(Path(path).relative_to(self.root)) for path in paths)
 
 
 @pytest.fixture(scope="module")
@@ -308,8 +310,8 @@ def test_another_installation_takes_away_what_only_the_one_before_had(given, pre
 def test_bin_install_removes_what_it_has_installed(prefix):
     """What others have put there stays."""
     others = [f"{prefix}/bin/other", f"{prefix}/share/man/man1/other.1"]
-    for it in others:
-        open(it, "w").close()
+    for path in others:
+        open(path, "w").close()
     assert install("--remove", "--prefix", prefix) == (0, "")
     assert sorted(f"{at}/{name}" for at, _, names in os.walk(prefix) for name in names) == sorted(others)
     folders = sorted(str(Path(at).relative_to(prefix)) for at, _, _ in os.walk(prefix))

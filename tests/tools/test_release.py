@@ -49,10 +49,10 @@ def flip(path, at=-1):
 
 
 def test_a_release_that_is_made_again_is_the_same(released):
-    first = [Path(released.top, it).read_bytes() for it in (MADE_OF, PACKED)]
+    first = [Path(released.top, name).read_bytes() for name in (MADE_OF, PACKED)]
     status, out, said, log = released.run("release")
     assert (status, said, log) == (0, "", [])
-    assert [Path(released.top, it).read_bytes() for it in (MADE_OF, PACKED)] == first
+    assert [Path(released.top, name).read_bytes() for name in (MADE_OF, PACKED)] == first
     assert out.startswith("release/: nixkeep 1.2.3, sha256 ")
     status, out, _, _ = released.run("release", "--check")
     assert (status, out) == (0, "release/ is that of the present sources\n")

@@ -61,7 +61,7 @@ def said(file, line):
     return status, re.sub(rb"nixkeep[\w.-]*", b"NAME", errors + b"\0" + output)
 
 
-HELP = [line for it in subcommands.COMMANDS for line in (f"{it.name}|--help", f"help|{it.name}")]
+HELP = [line for command in subcommands.COMMANDS for line in (f"{command.name}|--help", f"help|{command.name}")]
 
 
 @pytest.mark.parametrize("line", [*FAULTS, *HELP])
@@ -85,7 +85,7 @@ def test_what_takes_long_to_load_is_not_loaded(line, program):
     with servers.server(program) as port:
         words += ["--server", f"http://127.0.0.1:{port}", "--as", "root", *line.split("|")]
         lines = ran(words)[2].decode().splitlines()
-    loaded = {it.rpartition("|")[2].strip() for it in lines}
+    loaded = {row.rpartition("|")[2].strip() for row in lines}
     assert "nixkeep_tools.http_client" in loaded
     assert not loaded & {"argparse", "collections", "email", "enum", "http.client", "pathlib", "re", "socket", "ssl",
                          "tempfile", "typing"}
@@ -96,7 +96,7 @@ def test_words_of_pages(page):
     """The completion and the manual page have each subcommand and each option."""
     text = Path(HERE, page).read_text().replace("\\-", "-")
     words = [command.name for command in subcommands.COMMANDS]
-    words += [f"--{option}" for it in (subcommands.TOP, *subcommands.COMMANDS) for option in it.options]
+    words += [f"--{option}" for command in (subcommands.TOP, *subcommands.COMMANDS) for option in command.options]
     assert [word for word in words if word not in text] == []
 
 
@@ -203,7 +203,7 @@ def test_replies_that_point_elsewhere(client):
     """Credentials go to the server that is named, and neither where it points to nor to a proxy of the environment."""
     moved = "HTTP/1.1 307 Temporary Redirect\r\nlocation: {}/paths\r\ncontent-length: 0\r\n\r\n"
     with recording([b""]) as (other, requests), recording([moved.format(other).encode()]) as (at, _):
-        more = {it: other for it in ("http_proxy", "https_proxy", "HTTP_PROXY", "ALL_PROXY")}
+        more = {variable: other for variable in ("http_proxy", "https_proxy", "HTTP_PROXY", "ALL_PROXY")}
         came = client(at, "list", NIXKEEP_CREDENTIALS="ann:secret", **more)
         fails(came, rf"failed: proxy: \S+: 307 .*; it points to {other}/paths")
         assert requests == [], "what another one is asked"
@@ -244,7 +244,7 @@ def test_replies_with_random_heads(rng):
         head = replies.spoiled(rng)
         if parsed := http_connection.plain_head(head):
             reply = http_connection.Reply(None, *parsed, b"")
-            fields = [reply.fields.get(it) for it in ("content-type", "location")]
+            fields = [reply.fields.get(name) for name in ("content-type", "location")]
             assert (reply.status, reply.reason, fields, reply.length, reply.is_last) == replies.by_http_client(head)
             count += 1
     assert count > 2_000, "many of the heads are read by the client itself"
@@ -329,7 +329,7 @@ def listed():
     return steps
 
 
-NAMES = sorted(it.name for it in Path(cases.CASES).glob("*.txt"))
+NAMES = sorted(file.name for file in Path(cases.CASES).glob("*.txt"))
 
 
 def pytest_generate_tests(metafunc):
@@ -343,7 +343,9 @@ def pytest_generate_tests(metafunc):
 @pytest.fixture(scope="module")
 def by_servers(program, pool, request):
     """The runs of the cases that are chosen, whose commands are done by servers. They run side by side."""
-    names = [item.callspec.params["case"] for item in request.session.items if item.originalname == "test_cases"]
+    # (a bare pytest has items of other modules, too, of which some are no functions)
+    items = [item for item in request.session.items if item.parent is request.node and "case" in item.fixturenames]
+    names = [item.callspec.params["case"] for item in items]
     with tempfile.TemporaryDirectory() as folder, stand_in.answering(program, folder) as (file, _):
         programs = {"nixkeep": file, "in-pieces": file_of(folder, "in-pieces", IN_PIECES, 0o755)}
         yield {name: pool.submit(cases.run_case, f"{cases.CASES}/{name}", programs, SECONDS) for name in names}
@@ -361,7 +363,7 @@ def test_cases(case, by_servers):
         assert command in left, f"$ {command}\nline {step.line}: {why}"
         left.remove(command)
     skipped = [step.command.split("\n")[0] for step, _ in ran.skipped]
-    assert [it for it in left if it not in skipped] == [], "they come out as written, and are listed"
+    assert [name for name in left if name not in skipped] == [], "they come out as written, and are listed"
     assert ran.passed() > 0
     if ran.skipped:
         pytest.skip(f"without {', '.join(sorted({what for _, what in ran.skipped}))}")

@@ -83,15 +83,15 @@ def rescue(nixkeep, folder, rng):
 def test_a_rescue_of_the_others(nixkeep, rescue):
     assert f"object ({rescue.lost}): hash isn't the SHA-256" in rescue.said
     assert rescue.status == 3
-    wanted = "".join(f"{STORE}/{it}\n" for it in sorted(rescue.world.objects) if it != rescue.lost)
+    wanted = "".join(f"{STORE}/{base}\n" for base in sorted(rescue.world.objects) if base != rescue.lost)
     assert nixkeep(rescue.new, "list")[0] == wanted
     assert explained(rescue.new)[1] == 0, "the new store is sound"
-    modes = [os.stat(it).st_mode & 0o777 for it in (rescue.out, f"{rescue.out}/restore", rescue.new)]
+    modes = [os.stat(path).st_mode & 0o777 for path in (rescue.out, f"{rescue.out}/restore", rescue.new)]
     assert modes == [0o700, 0o700, 0o600], "who may read what was rescued"
-    for base, it in rescue.store.objects.items():
+    for base, item in rescue.store.objects.items():
         was = rescue.world.objects[base]
-        assert (it.size, it.digest) == (len(was.archive), sha256(was.archive)), base
-        assert (set(it.references), it.deriver, it.address) == (was.references, was.deriver, was.address), base
+        assert (item.size, item.digest) == (len(was.archive), sha256(was.archive)), base
+        assert (set(item.references), item.deriver, item.address) == (was.references, was.deriver, was.address), base
 
 
 def test_a_rescue_of_the_roots(rescue):
@@ -135,9 +135,9 @@ def test_a_rescue_on_a_full_disk(most, folder):
 def test_a_rescue_leaves_room(folder, path, monkeypatch):
     """Objects that have no room aren't begun: 64 MB are left, as of a copy."""
     with store_file.open_store(path) as conn:
-        total = sum(it.size for it in store_file.read_objects(conn).values())
+        total = sum(item.size for item in store_file.read_objects(conn).values())
     free, real, out = [0], os.statvfs, f"{folder}/out"
-    seen = lambda it: types.SimpleNamespace(f_blocks=1, f_frsize=1, f_bavail=free[0]) if it == folder else real(it)
+    seen = lambda at: types.SimpleNamespace(f_blocks=1, f_frsize=1, f_bavail=free[0]) if at == folder else real(at)
     monkeypatch.setattr(os, "statvfs", seen)
     least = total + (64 << 20)
     for free[0], wanted in ((least - 1, 1), (least, 0)):
@@ -157,14 +157,15 @@ def test_what_a_terminal_obeys(folder):
     with contextlib.closing(sqlite3.connect(path)) as conn:
         conn.execute('CREATE TABLE object ("\x1b[31m" TEXT)')
     output = "".join([output, errors, *explained(path, "--usage")[::2]])
-    assert [it for it in output if not it.isprintable() and it != "\n"] == []
-    assert all(it in output for it in ("are \\x1b", "two\\nlines")), "it is printed as an escape"
+    assert [char for char in output if not char.isprintable() and char != "\n"] == []
+    assert all(text in output for text in ("are \\x1b", "two\\nlines")), "it is printed as an escape"
 
 
 # What a file may have in the place of a name, a path or a label, for whoever runs what was rescued of it.
 HOSTILE = ["'$(touch${IFS}ran)`touch${IFS}ran`", "'; touch ran; '", "x\nEND\ntouch ran\n", "../../ran", "-e",
            "\x1b[2J\\", "a\"\ntouch ran #"]
-TEXTS = [(table, it.split()[0]) for table, (columns, _) in store_file.FORMS.items() for it in columns if "TEXT" in it]
+TEXTS = [(table, column.split()[0]) for table, (columns, _) in store_file.FORMS.items()
+         for column in columns if "TEXT" in column]
 # It answers as a server does, or says nothing.
 STAND_IN = """#!/bin/sh
 for last; do :; done
@@ -186,13 +187,13 @@ def test_what_a_shell_obeys(at, folder, rng):
         _, status, errors = explained("--rescue", out, path)
         assert (status, errors) in ((0, ""), (3, "")), (table, column)
         # (what isn't in the script isn't run by it)
-        if any(it in Path(out, "restore").read_text() for it in ("touch", "../")):
+        if any(word in Path(out, "restore").read_text() for word in ("touch", "../")):
             came.add(table)
             ran = subprocess.run(["sh", f"{out}/restore", f"{folder}/new.db"], cwd=folder, capture_output=True,
                                  env={**os.environ, "NIXKEEP": str(stand_in)})
             assert (ran.returncode, ran.stderr) == (0, b""), (table, column)
-        found = {it.name for at in (folder, f"{folder}/..", out, f"{out}/objects") for it in Path(at).iterdir()}
-        assert "ran" not in found and sorted(os.listdir(out)) == ["objects", "restore", "store.toml"]
+        names = {file.name for at in (folder, f"{folder}/..", out, f"{out}/objects") for file in Path(at).iterdir()}
+        assert "ran" not in names and sorted(os.listdir(out)) == ["objects", "restore", "store.toml"]
         shutil.rmtree(out)
     # (the label of a runtime root may be any word)
     assert came == ({"runtime"} if "IFS" in text or "/" in text else set())
@@ -262,8 +263,8 @@ def test_rescues_by_chance(rng, folder, many):
 def sizes(world, roots, everything):
     """The bytes that these roots reach, and those that no other root reaches, by the model alone."""
     config = config_of(b"")
-    reach = lambda some: {base for it in some for base in world.reached(it[1], config)}
-    mine, rest = reach(roots), reach([it for it in everything if it not in roots])
+    reach = lambda some: {base for root in some for base in world.reached(root[1], config)}
+    mine, rest = reach(roots), reach([root for root in everything if root not in roots])
     return world.size(mine), world.size(mine - rest)
 
 
@@ -278,16 +279,16 @@ def test_usage(nixkeep, folder, seed, at):
     assert {line[1]: line[0] for line in lines if line[1:] in (["live"], ["dead"], ["total"])} == reported
     with store_file.open_store(path) as conn:
         store = store_file.read(conn)
-    roots = [(it.kind, it.target, it.label, it.owner) for it in store.roots]
-    for root, found in store_file.usage_of_roots(store, store_file.edges(store)):
+    roots = [(root.kind, root.target, root.label, root.owner) for root in store.roots]
+    for root, used in store_file.usage_of_roots(store, store_file.edges(store)):
         mine = [(root.kind, root.target, root.label, root.owner)]
-        assert tuple(found) == sizes(world, mine, roots), root.label
-    for owner, found in store_file.usage_of_owners(store, store_file.edges(store)):
-        mine = [it for it in roots if (it[3] or f"({it[0]})") == owner]
-        assert tuple(found) == sizes(world, mine, roots), owner
-    for (owner, name), it in world.profiles.items():
-        row = [line for line in lines if line[1:4] == [owner, name, str(it.current)]]
-        assert [it[0] for it in row] == ["current"]
+        assert tuple(used) == sizes(world, mine, roots), root.label
+    for owner, used in store_file.usage_of_owners(store, store_file.edges(store)):
+        mine = [root for root in roots if (root[3] or f"({root[0]})") == owner]
+        assert tuple(used) == sizes(world, mine, roots), owner
+    for (owner, name), profile in world.profiles.items():
+        row = [line for line in lines if line[1:4] == [owner, name, str(profile.current)]]
+        assert [line[0] for line in row] == ["current"]
 
 
 # ---- archives

@@ -10,6 +10,7 @@ caches. This needs root, systemd and systemd-nspawn (Debian: systemd-container).
 tests/cases/set-up.txt alone does by hand what the units say.
 """
 import contextlib
+import fcntl
 import hashlib
 import os
 import re
@@ -64,14 +65,14 @@ def settings_of(path):
     return settings
 
 
-of_unit = pytest.mark.parametrize("path", UNITS, ids=lambda it: Path(it).name)
+of_unit = pytest.mark.parametrize("path", UNITS, ids=lambda path: Path(path).name)
 
 
 @of_unit
 def test_said_settings(path):
     """A unit has the settings that a page promises."""
     wanted = SETTINGS[Path(path).name]
-    assert {it: settings_of(path).get(it) for it in wanted} == wanted
+    assert {key: settings_of(path).get(key) for key in wanted} == wanted
 
 
 @of_unit
@@ -90,9 +91,9 @@ def test_said_options(path):
 @pytest.fixture
 def instance(path, folder):
     """The file of a unit of the store red among all of them. (The programs of the units aren't installed here.)"""
-    for it in map(Path, UNITS):
-        text = re.sub(r"/usr/bin/nixkeep[a-z-]*", shutil.which("true"), it.read_text())
-        Path(folder, it.name.replace("@", "@red")).write_text(text)
+    for file in map(Path, UNITS):
+        text = re.sub(r"/usr/bin/nixkeep[a-z-]*", shutil.which("true"), file.read_text())
+        Path(folder, file.name.replace("@", "@red")).write_text(text)
     return f"{folder}/{Path(path).name.replace('@', '@red')}"
 
 
@@ -185,6 +186,8 @@ class Machine:
         return self.output(f"systemctl is-active {unit}")
 
 
+# There is one machine at a time, also where planted faults are tried meanwhile.
+LOCK = "/run/nixkeep-machine"
 ASK = "curl -sS --max-time 500 --unix-socket /run/nixkeep/red.socket"
 AS_ANN = f"{ASK} -H 'store-user: ann' http://store"
 # What a client may see of an answer that was lost, or of which a part was.
@@ -223,17 +226,17 @@ class Load:
 
     def __exit__(self, *_):
         self.machine("touch /run/stop")
-        self.answers = [line for it in self.running for line in it.communicate()[0].splitlines()]
+        self.answers = [line for process in self.running for line in process.communicate()[0].splitlines()]
         self.machine("rm /run/stop")
 
     def check(self, lost=None):
         """Each add was done, and is in the store. `lost` is the pattern of what a client may see whose connection was
         lost."""
         done = [answer for answer in self.answers if re.fullmatch(r"/nix/store/\S+ 200", answer)]
-        assert [it for it in self.answers if it not in done and not (lost and re.fullmatch(lost, it))] == []
+        assert [line for line in self.answers if line not in done and not (lost and re.fullmatch(lost, line))] == []
         assert len(done) >= self.clients, "there were adds"
         listed = self.machine.output(f"{AS_ANN}/paths").split()
-        assert [it for it in done if it.split()[0] not in listed] == [], "none is lost"
+        assert [line for line in done if line.split()[0] not in listed] == [], "none is lost"
 
 
 @pytest.fixture(scope="module")
@@ -244,15 +247,17 @@ def machine(program):
         pytest.skip("a machine is booted by root alone")
     # (a tree of many small files is unpacked and deleted sooner in memory)
     memory = "/dev/shm" if Path("/dev/shm").is_dir() and shutil.disk_usage("/dev/shm").free > 2 << 30 else None
-    with tempfile.TemporaryDirectory(dir=memory) as folder:
+    with open(LOCK, "w") as lock, tempfile.TemporaryDirectory(dir=memory) as folder:
+        # (the units of two machines would have the same control groups, and each end those of the other)
+        fcntl.flock(lock, fcntl.LOCK_EX)
         root = f"{folder}/machine"
         os.mkdir(root)
         subprocess.run(["tar", "-xf", tree(), "-C", root], check=True)
         status, output, errors = ran([f"{HERE}/bin/package", "--to", f"{folder}/package", "--program", program])
         assert status == 0, errors.decode()
         shutil.copy(output.decode().split()[0], f"{root}/root/nixkeep.deb")
-        for it in (f"{EXAMPLES}/red.toml", f"{EXAMPLES}/green.toml", *UNITS):
-            shutil.copy(it, f"{root}/root")
+        for file in (f"{EXAMPLES}/red.toml", f"{EXAMPLES}/green.toml", *UNITS):
+            shutil.copy(file, f"{root}/root")
         made = Machine(root)
         try:
             if not made.boot():
@@ -265,7 +270,7 @@ def machine(program):
 
 
 def states(machine):
-    return [machine.state(it) for it in ("nixkeep@red.socket", "nixkeep@red", "nixkeep-backup@red.timer")]
+    return [machine.state(unit) for unit in ("nixkeep@red.socket", "nixkeep@red", "nixkeep-backup@red.timer")]
 
 
 def test_the_set_up(machine):
@@ -384,6 +389,26 @@ def test_a_stop_while_a_copy_is_tested(machine):
     assert states(machine) == ["active"] * 3, "after a copy that was killed the server runs"
 
 
+# (a slow test of the configuration, which a copy makes before it asks the server)
+SLOWLY = """#!/bin/sh
+case "$*" in *who) sleep 4 ;; esac
+exec /usr/bin/nixkeep.kept "$@"
+"""
+
+
+def test_a_kill_while_a_copy_asks(machine):
+    """The start of the server waits for that of a copy, which doesn't wait for the server then."""
+    machine("cd /usr/bin; mv nixkeep nixkeep.kept")
+    Path(machine.root, "usr/bin/nixkeep").write_text(SLOWLY)
+    machine("chmod 755 /usr/bin/nixkeep; systemctl start --no-block nixkeep-backup@red; sleep 2")
+    assert machine.state("nixkeep-backup@red") == "activating", "the copy is about to ask for the report"
+    machine("systemctl kill -s KILL nixkeep@red; sleep 1")
+    until = "timeout 60 sh -c 'until systemctl is-active --quiet nixkeep@red; do sleep 0.3; done'"
+    assert machine(until)[0] == 0, machine("systemctl list-jobs; systemctl status 'nixkeep*red*' --no-pager")
+    machine("mv /usr/bin/nixkeep.kept /usr/bin/nixkeep; systemctl restart nixkeep@red")
+    assert states(machine) == ["active"] * 3
+
+
 # What a service that was taken over may put in the place of its file, and what a copy says of that.
 HOSTILE = {"mkfifo store.db": "it is no file", "ln -s /dev/zero store.db": "No such file or directory",
            "true": "No such file or directory", "cp kept.db store.db": "the server has another one open",
@@ -483,7 +508,7 @@ def test_a_removal(machine):
     """The lines of the page, but for nginx's, leave nothing of a store. The other store's configuration stays."""
     machine("cp /root/nixkeep-sweep@.* /etc/systemd/system; systemctl daemon-reload; deluser --quiet proxy-red")
     for _, text in command_blocks(Path(HERE, "docs/OPERATING.md").read_text())["Remove"]:
-        for line in [it for it in text.splitlines() if "nginx" not in it]:
+        for line in [row for row in text.splitlines() if "nginx" not in row]:
             status, said = machine(f"bash -c {shlex.quote(line)}")
             assert status == 0, (line, said)
     left = "find /etc /var/lib /var/cache -name '*red*' -path '*nixkeep*' -not -path '*/timers/*'; ls /etc/nixkeep"

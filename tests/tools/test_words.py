@@ -12,7 +12,7 @@ import pytest
 from nixkeep_dev.build import layout
 from tests.tools.words import options_in, options_of, options_of_program
 
-TOOLS = [it for it in layout.names_in("tools") if it.startswith("nixkeep-")]
+TOOLS = [name for name in layout.names_in("tools") if name.startswith("nixkeep-")]
 # Options of other programs that a help or a manual page mentions.
 MENTIONED = {"nixkeep-cache": {"--from", "--generate-binary-cache-key", "--no-check-sigs", "--to"},
              "nixkeep-explain": {"--db"}, "nixkeep-closure": {"--blobs", "--serve", "--store", "--write"}}

@@ -30,7 +30,7 @@ def fetched(team, servers, rng):
         part = team("ann", "GET", url, None, "-H", "range: bytes=1000-2999")
         same("and a range of it", (part[0], part[1] == whole[1000:3000]), (206, True))
         same("it is uploaded to another path", team.upload(some_path(rng, "again"), archive)[0], 200)
-    keys = [it["Key"] for it in servers.client().list_objects_v2(Bucket=swift.BUCKET)["Contents"]]
+    keys = [item["Key"] for item in servers.client().list_objects_v2(Bucket=swift.BUCKET)["Contents"]]
     same("two archives at four paths are two objects", len([key for key in keys if key.endswith(".nar.zst")]), 2)
     return archive, path
 
@@ -56,14 +56,14 @@ def verify(team):
 def away(team, servers, rng):
     """Swift is stopped and started again."""
     archive, path = archive_of(rng), some_path(rng, "away")
-    for it in servers.running:
-        it.end()
+    for part in servers.running:
+        part.end()
     came = team.upload(path, archive)
     check("without Swift an upload fails by name", came[0] == 503 and team.blobs.encode() in came[1], came)
     same("and leaves no pointer", team.fields(path)[0], 404)
     same("the blobs don't answer", health(team), (503, NO_BLOBS))
-    for it in servers.running:
-        it.start()
+    for part in servers.running:
+        part.start()
     same("with it the upload is done", team.upload(path, archive)[0], 200)
     parts.until("the blobs answer", lambda: health(team) == (200, WELL))
     same("all is whole", verify(team)[0], 0)
@@ -77,7 +77,7 @@ def swept(team, servers, archive, path):
     status, lines = team.tool("sweep")
     check("their blobs are swept", status == 0 and lines[-1].startswith("swept 3 blobs "), lines)
     left = servers.client().list_objects_v2(Bucket=swift.BUCKET).get("Contents", [])
-    same("and nothing is left in the bucket", [it["Key"] for it in left], [])
+    same("and nothing is left in the bucket", [item["Key"] for item in left], [])
     same("an upload begins anew", (team.upload(path, archive)[0], verify(team)[0]), (200, 0))
 
 

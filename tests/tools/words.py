@@ -24,7 +24,7 @@ def said(*words):
 
 def options_of(tool: str) -> set[str]:
     """The options of a tool and of its subcommands; None where it doesn't run here."""
-    helps = [said(f"{HERE}/tools/{tool}", *it) for it in [(), *[(it,) for it in SUBCOMMANDS.get(tool, ())]]]
+    helps = [said(f"{HERE}/tools/{tool}", *words) for words in [(), *[(word,) for word in SUBCOMMANDS.get(tool, ())]]]
     return None if None in helps else set().union(*map(options_in, helps))
 
 

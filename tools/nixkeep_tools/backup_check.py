@@ -4,6 +4,7 @@ import contextlib
 import json
 import os
 import re
+import signal
 import sqlite3
 import subprocess
 from collections.abc import Iterator
@@ -15,6 +16,8 @@ from .http_client import Foreign, Place, Server
 
 # The part of a unit's memory that an opened store may need for its archives; opening takes more than their bytes.
 OPENS = 0.75
+# The seconds between two looks at whether a unit still runs.
+LOOK = 1
 # The bytes of a report, which has four lines, and those of the figures of nixkeep-cache, at most.
 REPORT, FIGURES = 1_000, 1 << 20
 # The figure of the memory that the server's next start takes.
@@ -43,10 +46,10 @@ def report_of(server):
 def start_of(server: Server) -> int:
     """The bytes of memory that a server's next start takes by the figures of nixkeep-cache, or 0 if there are none."""
     try:
-        found = START.search(server.ask("GET", "/metrics", is_repeated=True).text(FIGURES))
+        match = START.search(server.ask("GET", "/metrics", is_repeated=True).text(FIGURES))
     except Foreign:
         return 0
-    return int(float(found[1])) if found else 0
+    return int(float(match[1])) if match else 0
 
 
 def memory_of(unit):
@@ -59,7 +62,7 @@ def memory_of(unit):
 def swap():
     """The bytes of the machine's swap space."""
     with contextlib.suppress(OSError), open("/proc/meminfo", encoding="ascii") as file:
-        return sum(int(it.split()[1]) << 10 for it in file if it.startswith("SwapTotal:"))
+        return sum(int(line.split()[1]) << 10 for line in file if line.startswith("SwapTotal:"))
     return 0
 
 
@@ -107,17 +110,43 @@ def refuse_replaced(path):
 
 def looked_at(path, look):
     """What is seen of a file, by its owner."""
-    found = as_owner.looked(path, look)
-    if found is None:
+    facts = as_owner.looked(path, look)
+    if facts is None:
         raise Stop(f"failed: file: {path}: it can't be read: the server isn't stopped")
-    return found
+    return facts
 
 
 def check(words: argparse.Namespace) -> None:
     """Asks the server for its report, and notes it with the version of the store. Raises Stop if the server may not
     start again: then it has to go on as it is."""
-    if words.unit and not is_active(words.unit):
-        raise Stop(f"failed: unit: {words.unit} doesn't run, so nothing is copied")
+    with while_active(words.unit):
+        examine(words)
+
+
+@contextlib.contextmanager
+def while_active(unit: str | None) -> Iterator[None]:
+    """What is done here ends by Stop as soon as a unit runs no more, if there is one. Its next start waits for that of
+    the copy, so whoever asks it would wait for a server that waits for them."""
+
+    def refuse(*_):
+        if not is_active(unit):
+            raise Stop(f"failed: unit: {unit} doesn't run, so nothing is copied")
+
+    if not unit:
+        yield
+        return
+    refuse()
+    before = signal.signal(signal.SIGALRM, refuse)
+    signal.setitimer(signal.ITIMER_REAL, LOOK, LOOK)
+    try:
+        yield
+    finally:
+        signal.setitimer(signal.ITIMER_REAL, 0)
+        signal.signal(signal.SIGALRM, before)
+
+
+def examine(words: argparse.Namespace) -> None:
+    """What `check` does while the unit runs."""
     backup_file.ran(backup_file.words_of(backup_file.program_of(words), words.config, "who"), "configuration")
     before = looked_at(words.db, seen)
     refuse_newer(words.db, before["schema"])

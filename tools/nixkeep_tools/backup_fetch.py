@@ -38,7 +38,7 @@ Done = collections.namedtuple("Done", "objects bytes roots passes report")
 
 
 def listed(store):
-    roots, names, report = [store.ask("GET", it)[1].decode() for it in ("/roots", "/paths", "/report")]
+    roots, names, report = [store.ask("GET", route)[1].decode() for route in ("/roots", "/paths", "/report")]
     # (a server alone has no large archives)
     number, large = store.ask("GET", "/pointers", allowed=(objects.NO_ROUTE,))
     return Listed(roots, names, report, large.decode() if number is None else "")
@@ -48,14 +48,14 @@ def read_roots(text):
     """The roots of a listing: a kind, the parts of the label, and the base name of the target. Kinds come in their
     order, and in each the roots by target and label. That says what a label is that has the form of two, since a
     runtime root's may be any text. (Where both are in order, a store with either has this listing.)"""
-    lines = [(target, label) for label, _, target in (it.rpartition(" ") for it in text.splitlines())]
+    lines = [(target, label) for label, _, target in (row.rpartition(" ") for row in text.splitlines())]
     sessions, kinds = len(lines), []
     is_session = lambda at: LABELS["temporary"].fullmatch(lines[at][1]) and lines[at:at + 2] == sorted(lines[at:at + 2])
     while sessions and is_session(sessions - 1):
         sessions -= 1
     for at, (line, before) in enumerate(zip(lines, [("", ""), *lines])):
         left = KINDS[KINDS.index(kinds[-1]) if kinds else 0:-1] if at < sessions else KINDS[-1:]
-        fits = [it for it in left if LABELS[it].fullmatch(line[1]) and (line > before or kinds[-1] != it)]
+        fits = [kind for kind in left if LABELS[kind].fullmatch(line[1]) and (line > before or kinds[-1] != kind)]
         if not fits:
             raise ValueError(f"{line[1]!r} is no root's label")
         kinds.append(fits[0])
@@ -94,12 +94,12 @@ class Fetch:
     def texts(self, bases: Iterable[str]) -> dict[str, tuple[bytes, pointers.Pointer | None]]:
         """The texts of the records of these paths in the source and their pointers or None, by path; without those that
         are gone meanwhile."""
-        found = {}
+        entries = {}
         for base in bases:
             number, text = self.source.ask("GET", f"/info/{base}", allowed=(NOT_VALID,))
             if number is None:
-                found[base] = text, self.pointers.get(base)
-        return found
+                entries[base] = text, self.pointers.get(base)
+        return entries
 
     def record(self, base: str, text: bytes, pointer: pointers.Pointer | None) -> objects.Record:
         """The Record that an object has in the copy."""
@@ -124,10 +124,10 @@ class Fetch:
         What was deleted or imported anew in the source meanwhile is found in the next pass.
         """
         texts = self.texts(bases)
-        self.delete([it for it, text in have.items() if texts.get(it) != text], have)
-        records = {it: self.record(it, *found) for it, found in texts.items()}
-        missing = [it for it in closures.references_first(records) if it not in have]
-        progress = Progress("fetch", sum(records[it].nar_size for it in missing), len(missing))
+        self.delete([base for base, text in have.items() if texts.get(base) != text], have)
+        records = {base: self.record(base, *entry) for base, entry in texts.items()}
+        missing = [base for base in closures.references_first(records) if base not in have]
+        progress = Progress("fetch", sum(records[base].nar_size for base in missing), len(missing))
         try:
             for base in missing:
                 if self.copy_object(records[base], have):
@@ -138,7 +138,7 @@ class Fetch:
 
     def copy_object(self, record, have):
         """Copies an object, and returns whether that was possible: whether the source has it and what it refers to."""
-        if not {*record.refs} <= have.keys() | {record.base}:
+        if any(base not in have and base != record.base for base in record.refs):
             return False
         archive = self.archive(record)
         if archive is None or paths.sha256([archive]) != record.nar_hash:
@@ -146,15 +146,15 @@ class Fetch:
         # (each time: others may fill the disk meanwhile, and a server may list less than it has)
         disk_room.demand(record.nar_size, self.file)
         pairs = [("path", record.base), ("nar-hash", paths.nar_hash(record.nar_hash))]
-        pairs += [("reference", it) for it in record.refs]
-        pairs += [(key, it) for key, it in (("deriver", record.deriver), ("ca", record.ca)) if it]
+        pairs += [("reference", base) for base in record.refs]
+        pairs += [(key, value) for key, value in (("deriver", record.deriver), ("ca", record.ca)) if value]
         self.as_user("root", "POST", "/import", objects.lines(*pairs) + archive)
         return True
 
     def delete(self, bases: list[str], have: dict) -> None:
         """Deletes objects of the target, which has no root yet, and all that refer to them."""
         if bases:
-            text = self.as_user("root", "POST", "/delete", objects.lines(*[("path", it) for it in bases]))
+            text = self.as_user("root", "POST", "/delete", objects.lines(*[("path", base) for base in bases]))
             for line in text.splitlines()[:-1]:
                 have.pop(line.rpartition("/")[2], None)
 
@@ -192,7 +192,7 @@ class Fetch:
         for number in {*range(1, max(generations))} - generations.keys():
             self.as_user(user, "DELETE", f"/generation/{user}/{name}/{number}")
         if fillers:
-            self.as_user("root", "POST", "/delete", objects.lines(*[("path", it) for it in fillers]))
+            self.as_user("root", "POST", "/delete", objects.lines(*[("path", filler) for filler in fillers]))
 
     def filler(self, user, at):
         """The path of a new object, which no store has."""
@@ -209,8 +209,8 @@ class Fetch:
             if number == 1 and (total := backup_file.TOTAL.search(before.report)):
                 disk_room.demand(int(total[2]), self.file)
             large = map(pointers.read_line, before.pointers.splitlines())
-            self.pointers = {it.path.rpartition("/")[2]: it for it in large}
-            self.copy_objects([it.rpartition("/")[2] for it in before.paths.splitlines()], have)
+            self.pointers = {pointer.path.rpartition("/")[2]: pointer for pointer in large}
+            self.copy_objects([path.rpartition("/")[2] for path in before.paths.splitlines()], have)
             if listed(self.source) == before and len(have) == len(before.paths.splitlines()):
                 break
         else:
@@ -238,7 +238,7 @@ def fetch(source: objects.Store, program: str, table: dict, to: str) -> Done:
         kept = {key: table[key] for key in ("store-dir", "keep-outputs", "keep-derivations") if key in table}
         with open(config, "w", encoding="utf-8") as file:
             # (a text and a truth value are the same in JSON)
-            file.writelines(f"{key} = {json.dumps(it)}\n" for key, it in {"trusted-users": ["*"], **kept}.items())
+            file.writelines(f"{key} = {json.dumps(value)}\n" for key, value in {"trusted-users": ["*"], **kept}.items())
         child = objects.Child(program, to, config)
         target = objects.Store(child.server(objects.FilePlace(to), {}), "root", source.folder, child)
         try:

@@ -38,7 +38,7 @@ def settings(path: str | None) -> dict:
 def caller(table: dict, keys: Iterable[str] = ("trusted-users", "allowed-users")) -> tuple[str, str | None]:
     """A user and a group, or None, that a configuration lets connect: the first one that it names."""
     defaults = {"trusted-users": ["root"], "allowed-users": ["*"]}
-    for entry in (it for key in keys for it in table.get(key, defaults[key])):
+    for entry in (value for key in keys for value in table.get(key, defaults[key])):
         name = entry.removeprefix("@")
         if entry == "*":
             return "root", None
@@ -104,10 +104,11 @@ def fold(path: str) -> None:
 # ---- tests
 
 
-def ran(words: list[str], what: str) -> str:
+def ran(words: list[str], what: str, process_group: int | None = None) -> str:
     """The standard output of a command that has to end with status 0."""
     try:
-        done = subprocess.run(words, stdin=subprocess.DEVNULL, capture_output=True, text=True, errors="replace")
+        done = subprocess.run(words, stdin=subprocess.DEVNULL, capture_output=True, text=True, errors="replace",
+                              process_group=process_group)
     except OSError as error:
         raise Stop(f"failed: {what}: {words[0]}: {reason(error)}") from None
     if done.returncode:
@@ -122,10 +123,10 @@ def rows(path: str) -> tuple[int, int]:
         with store_file.open_store(path) as conn:
             if "object" not in store_file.tables_of(conn):
                 raise Stop(f"failed: test: {path}: it has no table of a store")
-            found = store_file.read_objects(conn)
+            by_base = store_file.read_objects(conn)
     except sqlite3.Error as error:
         raise Stop(f"failed: test: {path}: {reason(error)}") from None
-    return len(found), sum(it.size for it in found.values())
+    return len(by_base), sum(item.size for item in by_base.values())
 
 
 def explain(path: str, config: str | None) -> None:

@@ -16,7 +16,7 @@ FORM = "%Y-%m-%dT%H-%M-%SZ.db"
 NAME = re.compile(r"\d{4}-\d\d-\d\dT\d\d-\d\d-\d\dZ\.db")
 # The copy that is being made, and what SQLite and nixkeep put next to it.
 NEW = "new.db"
-ALL_NEW = [NEW, *(f"{NEW}-{it}" for it in ("wal", "shm", "journal"))]
+ALL_NEW = [NEW, *(f"{NEW}-{suffix}" for suffix in ("wal", "shm", "journal"))]
 # What is kept: the newest copies, and the newest one of each of the latest days and weeks that have one.
 COPIES, DAYS, WEEKS = 7, 7, 13
 
@@ -31,18 +31,18 @@ def time_of(name: str) -> datetime.datetime | None:
 
 def newest_of_each(names, period, most):
     """The newest name of each of the latest periods. The names are in falling order."""
-    found = {}
-    for it in names:
-        found.setdefault(period(time_of(it)), it)
-    return [*found.values()][:most]
+    newest = {}
+    for name in names:
+        newest.setdefault(period(time_of(name)), name)
+    return [*newest.values()][:most]
 
 
 def kept(names: Iterable[str]) -> set[str]:
     """The names of the copies that are kept, as a set. It depends on copies alone, so time by itself deletes none."""
-    found = sorted(filter(time_of, names), reverse=True)
-    days = newest_of_each(found, lambda it: it.date(), DAYS)
-    weeks = newest_of_each(found, lambda it: it.isocalendar()[:2], WEEKS)
-    return {*found[:COPIES], *days, *weeks}
+    ordered = sorted(filter(time_of, names), reverse=True)
+    days = newest_of_each(ordered, lambda moment: moment.date(), DAYS)
+    weeks = newest_of_each(ordered, lambda moment: moment.isocalendar()[:2], WEEKS)
+    return {*ordered[:COPIES], *days, *weeks}
 
 
 def sync(path: str) -> None:
@@ -106,12 +106,12 @@ def add(folder: str, make: Callable[[str], object]) -> tuple[str, list[str]]:
             name = give_name(folder)
         finally:
             delete_new(folder)
-        names = {it for it in os.listdir(folder) if time_of(it)}
+        names = {entry for entry in os.listdir(folder) if time_of(entry)}
         # (later ones are of a clock that was wrong, then or now: each group has places of its own)
-        later = {it for it in names if it > name}
+        later = {other for other in names if other > name}
         deleted = sorted(names - kept(names - later) - kept(later))
-        for it in deleted:
-            os.unlink(f"{folder}/{it}")
+        for old in deleted:
+            os.unlink(f"{folder}/{old}")
         return name, deleted
 
 
@@ -120,8 +120,8 @@ def add(folder: str, make: Callable[[str], object]) -> tuple[str, list[str]]:
 
 def read_state(path: str) -> dict:
     with contextlib.suppress(OSError, ValueError), store_file.opened(path) as file:
-        found = json.load(file)
-        return found if isinstance(found, dict) else {}
+        state = json.load(file)
+        return state if isinstance(state, dict) else {}
     return {}
 
 

@@ -62,7 +62,7 @@ def opened(folder: str, within: int | None = None) -> Iterator[int]:
 def fill(folder: int, source: BinaryIO, owner: os.stat_result) -> None:
     """Makes the file FRESH of what `source` has, in an open folder, for this account."""
     left = os.fstat(source.fileno()).st_size
-    with open(FRESH, "xb", opener=lambda it, flags: backup_file.fresh(it, flags, folder)) as target:
+    with open(FRESH, "xb", opener=lambda name, flags: backup_file.fresh(name, flags, folder)) as target:
         # (whoever may write the copy could have it grow without an end)
         while left and (piece := source.read(min(left, PIECE))):
             target.write(piece)
@@ -73,7 +73,7 @@ def fill(folder: int, source: BinaryIO, owner: os.stat_result) -> None:
 
 
 def files_of(folder):
-    return sorted(it for it in os.listdir(folder) if it == STORE or it.startswith(f"{STORE}-"))
+    return sorted(name for name in os.listdir(folder) if name == STORE or name.startswith(f"{STORE}-"))
 
 
 def is_folder(name, folder):
@@ -85,12 +85,12 @@ def held(names, folder):
     """Keeps every process from opening these files in an open folder, as a server does. Raises Stop if one has one of
     them open: a server that is none of the units', or what reads the store."""
     with contextlib.ExitStack() as all_open:
-        for it in names:
-            if (number := for_locking(it, folder)) is None:
+        for name in names:
+            if (number := for_locking(name, folder)) is None:
                 continue
             all_open.callback(os.close, number)
             if not store_file.lock(number):
-                path = os.path.join(os.readlink(f"/proc/self/fd/{folder}"), it)
+                path = os.path.join(os.readlink(f"/proc/self/fd/{folder}"), name)
                 why = explain_file.of_locks(f"/proc/self/fd/{number}", path)
                 raise Stop(f"failed: restore: {why[0].text if why else f'{path} was locked'}")
         yield
@@ -114,14 +114,14 @@ def link(names, folder, aside):
     """Gives files of a store further names in another folder; both are open. If that fails they have none: nixkeep
     refuses a file with two."""
     try:
-        for it in names:
-            if not is_folder(it, folder):
-                os.link(it, it, src_dir_fd=folder, dst_dir_fd=aside, follow_symlinks=False)
+        for name in names:
+            if not is_folder(name, folder):
+                os.link(name, name, src_dir_fd=folder, dst_dir_fd=aside, follow_symlinks=False)
         os.fsync(aside)
         os.fsync(folder)
     except OSError:
-        for it in os.listdir(aside):
-            os.unlink(it, dir_fd=aside)
+        for name in os.listdir(aside):
+            os.unlink(name, dir_fd=aside)
         raise
 
 
@@ -129,11 +129,11 @@ def move_aside(names: list[str], folder: int, aside: int) -> None:
     """Moves files of a store into another folder, but for the name of `store.db`, which the copy takes over: if the
     machine stops before that, no server begins a new store there, and none opens the file, which has two names."""
     link(names, folder, aside)
-    for it in names:
-        if is_folder(it, folder):
-            os.rename(it, it, src_dir_fd=folder, dst_dir_fd=aside)
-        elif it != STORE:
-            os.unlink(it, dir_fd=folder)
+    for name in names:
+        if is_folder(name, folder):
+            os.rename(name, name, src_dir_fd=folder, dst_dir_fd=aside)
+        elif name != STORE:
+            os.unlink(name, dir_fd=folder)
 
 
 @contextlib.contextmanager
@@ -218,14 +218,14 @@ def swap(names, folder, aside):
 
 def put_back(folder, aside):
     """Undoes what `move_aside` has done. What can't be put back stays in the other folder."""
-    for it in [it for it in os.listdir(aside) if it != FRESH]:
+    for name in [entry for entry in os.listdir(aside) if entry != FRESH]:
         with contextlib.suppress(OSError):
-            if is_folder(it, aside):
-                os.rename(it, it, src_dir_fd=aside, dst_dir_fd=folder)
+            if is_folder(name, aside):
+                os.rename(name, name, src_dir_fd=aside, dst_dir_fd=folder)
                 continue
             with contextlib.suppress(FileExistsError):
-                os.link(it, it, src_dir_fd=aside, dst_dir_fd=folder, follow_symlinks=False)
-            os.unlink(it, dir_fd=aside)
+                os.link(name, name, src_dir_fd=aside, dst_dir_fd=folder, follow_symlinks=False)
+            os.unlink(name, dir_fd=aside)
 
 
 # ---- the command
@@ -244,10 +244,10 @@ def test(path: str, copy: str, config: str) -> tuple[int, int]:
 
 def refuse_other(copy, name):
     """Raises Stop for a copy in the folder of another store's copies: whoever may read this store could read it."""
-    above, of = os.path.split(os.path.dirname(os.path.realpath(copy)))
-    if os.path.basename(above) == COPIES and of != name:
-        raise Stop(f"failed: copy: {copy}: it is one of the store {of}: if {name} has to be that one, copy the file to "
-                   "another folder first")
+    above, store = os.path.split(os.path.dirname(os.path.realpath(copy)))
+    if os.path.basename(above) == COPIES and store != name:
+        raise Stop(f"failed: copy: {copy}: it is one of the store {store}: if {name} has to be that one, copy the file "
+                   "to another folder first")
 
 
 def refuse_words(words, folder):
@@ -269,12 +269,14 @@ def restore(words: argparse.Namespace) -> str:
     folder = os.path.realpath(words.folder or f"/var/lib/nixkeep/{words.name}")
     config = words.config or f"/etc/nixkeep/{words.name}.toml"
     refuse_words(words, folder)
-    counted, server = [], backup_units.SERVER.format(words.name)
+    counted = []
     stopping.by_signals("restore")
     with alone(folder):
         aside = put(words.copy, folder, lambda path: counted.extend(test(path, words.copy, config)),
                     lambda: backup_units.stopped(words.name))
     count, size = counted
     line = f"restored {count_of(count, 'object')}, {size} bytes from {words.copy}; the files before are in {aside}"
-    is_started = backup_units.state_of(server) in backup_units.RUNS
-    return line if is_started else f"{line}; {server} didn't run, and isn't started"
+    # (a restore that was killed has left the timer stopped, and without it there would be no copies any more)
+    units = [unit.format(words.name) for unit in (backup_units.SERVER, backup_units.TIMER)]
+    left = [unit for unit in units if backup_units.state_of(unit) not in backup_units.RUNS]
+    return "; ".join([line, *(f"{unit} didn't run, and isn't started" for unit in left)])

@@ -1,8 +1,9 @@
 """The units of a store, which are stopped while its files are put back, and started again."""
 import contextlib
-from collections.abc import Iterator
+from collections.abc import Iterable, Iterator
 
 from . import backup_file, stopping
+from .failures import Stop
 
 # What is stopped, in this order: nothing may start the server meanwhile, or copy what isn't whole.
 TIMER, COPY, SOCKET, SERVER = UNITS = [
@@ -18,23 +19,35 @@ def state_of(unit: str) -> str:
 
 
 def set_unit(what, unit):
-    backup_file.ran(["systemctl", what, unit], "unit")
+    # (in a group of its own: what a terminal sends to all that run there, as when it is lost, would end systemctl)
+    backup_file.ran(["systemctl", what, unit], "unit", process_group=0)
+
+
+def start(units: Iterable[str]) -> None:
+    """Starts units, also those after one that fails: without its timer a store would have no copies any more. Raises
+    the Stop of the first that fails."""
+    failed = []
+    for unit in units:
+        try:
+            set_unit("start", unit)
+        except Stop as stop:
+            failed.append(stop)
+    if failed:
+        raise failed[0]
 
 
 @contextlib.contextmanager
 def stopped(name: str) -> Iterator[None]:
     """Stops the units of a store, and starts those again that ran, also where something fails meanwhile."""
-    unit = {it: it.format(name) for it in UNITS}
-    ran = {it: state_of(unit[it]) in RUNS for it in UNITS}
+    unit = {kind: kind.format(name) for kind in UNITS}
+    ran = {kind: state_of(unit[kind]) in RUNS for kind in UNITS}
     # (while a copy is made the server is stopped, and is started at its end)
     ran[SERVER] = ran[SERVER] or ran[COPY]
     try:
-        for it in UNITS:
-            if ran[it] or it in (SOCKET, SERVER):
-                set_unit("stop", unit[it])
+        for kind in UNITS:
+            if ran[kind] or kind in (SOCKET, SERVER):
+                set_unit("stop", unit[kind])
         yield
     finally:
         with stopping.whole():
-            for it in (SOCKET, SERVER, TIMER):
-                if ran[it]:
-                    set_unit("start", unit[it])
+            start([unit[kind] for kind in (SOCKET, SERVER, TIMER) if ran[kind]])

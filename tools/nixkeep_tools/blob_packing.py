@@ -67,15 +67,15 @@ class Read:
 
 def of_xz(source: Source) -> Iterator[bytes]:
     """The archive in a source that is compressed by xz. Raises Bad."""
-    made, data = lzma.LZMADecompressor(lzma.FORMAT_XZ, memlimit=OF_XZ), b""
+    decompressor, data = lzma.LZMADecompressor(lzma.FORMAT_XZ, memlimit=OF_XZ), b""
     try:
-        while not made.eof:
-            if made.needs_input and not (data := source.read(PIECE)):
+        while not decompressor.eof:
+            if decompressor.needs_input and not (data := source.read(PIECE)):
                 raise Bad("it can't be unpacked: it ends too early")
-            yield made.decompress(data if made.needs_input else b"", PIECE)
+            yield decompressor.decompress(data if decompressor.needs_input else b"", PIECE)
     except lzma.LZMAError as error:
         raise Bad(f"it can't be unpacked: {error}") from None
-    if made.unused_data or source.read(1):
+    if decompressor.unused_data or source.read(1):
         raise Bad("it can't be unpacked: something follows its end")
 
 
@@ -116,9 +116,9 @@ class Frames:
         """The bytes of a block's head, or 0 if there are more to come."""
         if len(head) < 3:
             return 0
-        said = int.from_bytes(head[:3], "little")
-        is_last, is_one = said & 1, said >> 1 & 3 == 1
-        self.skip = (1 if is_one else said >> 3) + is_last * self.checksum
+        number = int.from_bytes(head[:3], "little")
+        is_last, is_one = number & 1, number >> 1 & 3 == 1
+        self.skip = (1 if is_one else number >> 3) + is_last * self.checksum
         self.head = self.frame if is_last else self.block
         return 3
 
@@ -148,16 +148,16 @@ def unpacked(source: Source) -> Source:
     first = b""
     while len(first) < HEAD and (data := source.read(PIECE)):
         first += data
-    made = zstandard.ZstdDecompressor(max_window_size=max(LATER, window_of(first)))
-    return made.stream_reader(Ahead(first, source), PIECE, read_across_frames=True, closefd=False)
+    decompressor = zstandard.ZstdDecompressor(max_window_size=max(LATER, window_of(first)))
+    return decompressor.stream_reader(Ahead(first, source), PIECE, read_across_frames=True, closefd=False)
 
 
 def of_zstd(source: Source) -> Iterator[bytes]:
     """The archive in a source that is compressed by zstd. Raises Bad."""
     frames = Frames(source)
     try:
-        made = unpacked(frames)
-        while data := made.read(PIECE):
+        stream = unpacked(frames)
+        while data := stream.read(PIECE):
             yield data
     except zstandard.ZstdError as error:
         raise Bad(f"it can't be unpacked: {error}") from None
@@ -176,8 +176,8 @@ UNPACKED = {"none": plain, "xz": of_xz, "zstd": of_zstd}
 def memory(compression: str, level: int) -> int:
     """The bytes of memory in which an archive, compressed so, becomes a blob of this level."""
     # (two threads compress, and what is between them; one that comes by zstd stays as it is)
-    given = zstandard.ZstdCompressionParameters.from_level(level).estimated_compression_context_size()
-    return PACKING + UNPACKING[compression] + (0 if compression == "zstd" else 3 * given)
+    context = zstandard.ZstdCompressionParameters.from_level(level).estimated_compression_context_size()
+    return PACKING + UNPACKING[compression] + (0 if compression == "zstd" else 3 * context)
 
 
 def packed(source: Source, compression: str, out: BinaryIO, level: int) -> Packed:
@@ -186,13 +186,13 @@ def packed(source: Source, compression: str, out: BinaryIO, level: int) -> Packe
     with ThreadPoolExecutor(3) as pool:
         nar, file, sent, synced = Digest(pool), Digest(pool), Digest(pool), Synced(out, pool)
         is_kept = compression == "zstd"
-        given = Read(source, file if is_kept else sent, synced if is_kept else None)
-        archive = begun(UNPACKED[compression](given if compression != "none" else source), source)
+        reader = Read(source, file if is_kept else sent, synced if is_kept else None)
+        archive = begun(UNPACKED[compression](reader if compression != "none" else source), source)
         (measure if is_kept else compress)(archive, nar, file, synced, level)
         synced.end()
-        made = nar.end(), nar.size, file.end(), file.size
-        of_sent = {"none": made[0], "zstd": made[2]}.get(compression)
-        return Packed(of_sent or sent.end(), *made)
+        figures = nar.end(), nar.size, file.end(), file.size
+        of_sent = {"none": figures[0], "zstd": figures[2]}.get(compression)
+        return Packed(of_sent or sent.end(), *figures)
 
 
 def begun(archive, source):
@@ -217,11 +217,11 @@ def measure(archive, nar, *_):
 
 
 def compress(archive, nar, file, out, level):
-    made = zstandard.ZstdCompressor(level=level, write_checksum=True, threads=2).compressobj()
+    compressor = zstandard.ZstdCompressor(level=level, write_checksum=True, threads=2).compressobj()
     for data in archive:
         nar.add(data)
-        put(made.compress(data), file, out)
-    put(made.flush(), file, out)
+        put(compressor.compress(data), file, out)
+    put(compressor.flush(), file, out)
 
 
 def put(data, file, out):

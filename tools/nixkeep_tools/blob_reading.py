@@ -81,22 +81,22 @@ def pieces(place: blobs.Place, name: str, pointer: Pointer, form: str, start: in
         stream.close()
         stream, start, end = place.open(name, start), 0, end - start
     try:
-        given = stream
+        source = stream
         if form == "none":
-            given = unpacked(stream)
+            source = unpacked(stream)
         if is_part:
-            yield from part(given, name, pointer, start, end)
+            yield from part(source, name, pointer, start, end)
         else:
-            yield from verified(given, name, pointer, form, start)
+            yield from verified(source, name, pointer, form, start)
     except zstandard.ZstdError as error:
         raise Damaged(f"blob-damaged {pointer.path}: {name} in the blobs can't be unpacked: {error}") from None
     finally:
         stream.close()
 
 
-def verified(given, name, pointer, form, start):
+def verified(source, name, pointer, form, start):
     digest, at, held = hashlib.sha256(), 0, b""
-    while data := given.read(PIECE):
+    while data := source.read(PIECE):
         digest.update(data)
         if at:
             yield held
@@ -110,11 +110,11 @@ def verified(given, name, pointer, form, start):
         yield held
 
 
-def part(given, name, pointer, start, end):
+def part(source, name, pointer, start, end):
     """Yields the bytes of a part, whose digest nothing says: those who ask for parts verify the whole."""
     at = 0
     while at < end:
-        data = given.read(PIECE)
+        data = source.read(PIECE)
         if not data:
             raise Damaged(f"blob-damaged {pointer.path}: {name} in the blobs ends too early")
         cut = data[max(0, start - at) : end - at]
@@ -122,12 +122,12 @@ def part(given, name, pointer, start, end):
         yield cut
 
 
-def as_xz(given: Iterable[bytes]) -> Iterator[bytes]:
+def as_xz(archive: Iterable[bytes]) -> Iterator[bytes]:
     """Yields an archive compressed by xz, and b"" where a piece of it adds nothing yet."""
-    made = lzma.LZMACompressor(preset=0)
-    for data in given:
-        yield made.compress(data)
-    yield made.flush()
+    compressor = lzma.LZMACompressor(preset=0)
+    for data in archive:
+        yield compressor.compress(data)
+    yield compressor.flush()
 
 
 def measured(place: blobs.Place, name: str) -> tuple[bytes, int, bytes, int]:

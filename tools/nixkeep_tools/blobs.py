@@ -73,8 +73,8 @@ class Parts:
         # (a link here would have the files of another folder deleted)
         folder = os.open(self.folder, os.O_RDONLY | os.O_DIRECTORY | os.O_NOFOLLOW)
         try:
-            for it in os.listdir(folder):
-                os.unlink(it, dir_fd=folder)
+            for name in os.listdir(folder):
+                os.unlink(name, dir_fd=folder)
         finally:
             os.close(folder)
 

@@ -19,6 +19,8 @@ PART = 16 << 20
 TRIES, SECONDS = 4, 30
 # The bytes of an answer that isn't a blob, such as a listing of a thousand, and the blobs of a bucket.
 LONGEST, MOST = 16 << 20, 2_000_000
+# The deleted blobs that are remembered.
+GONE = 100_000
 
 
 class Answer(botocore.awsrequest.AWSResponse):
@@ -84,6 +86,9 @@ class Bucket:
         with answered(self.where):
             self.client = boto3.client("s3", endpoint_url=endpoint, config=config)
         self.transfer = TransferConfig(multipart_threshold=PART, multipart_chunksize=PART, max_concurrency=2)
+        # What was deleted here. A bucket of many machines may still have it for a while, and no more after that: an
+        # upload that relied on it would lose its archive.
+        self.gone = {}
 
     def key(self, name: str) -> dict[str, str]:
         return {"Bucket": self.bucket, "Key": f"{self.prefix}{blobs.key_of(name)}"}
@@ -102,9 +107,12 @@ class Bucket:
             return False
         with answered(self.where):
             self.client.upload_file(part, *self.key(name).values(), Config=self.transfer)
+        self.gone.pop(name, None)
         return True
 
     def size(self, name: str) -> int | None:
+        if name in self.gone:
+            return None
         try:
             with answered(self.where):
                 return self.client.head_object(**self.key(name))["ContentLength"]
@@ -128,13 +136,17 @@ class Bucket:
         count = 0
         with answered(self.where):
             for page in self.client.get_paginator("list_objects_v2").paginate(Bucket=self.bucket, Prefix=self.prefix):
-                for it in page.get("Contents", []):
-                    if name := blobs.named(it["Key"].removeprefix(self.prefix)):
+                for item in page.get("Contents", []):
+                    name = blobs.named(item["Key"].removeprefix(self.prefix))
+                    if name and name not in self.gone:
                         count += 1
-                        yield blobs.Blob(name, it["Size"], it["LastModified"].timestamp())
+                        yield blobs.Blob(name, item["Size"], item["LastModified"].timestamp())
                 if count > MOST:
                     raise blobs.Failed(f"{self.where}: it lists more than {MOST} blobs")
 
     def delete(self, name: str) -> None:
         with answered(self.where):
             self.client.delete_object(**self.key(name))
+        self.gone[name] = None
+        if len(self.gone) > GONE:
+            self.gone.pop(next(iter(self.gone)), None)

@@ -22,9 +22,10 @@ def parser():
                                 "missing or damaged. The last line is a summary.")
     verify.add_argument("--blobs", required=True, metavar="FOLDER|s3://BUCKET[/PREFIX]", help="where the blobs are")
     verify.add_argument("--blobs-endpoint", metavar="URL", help="the server of s3:// [that of AWS]")
-    for it in (sweep, verify):
-        it.add_argument("--server", required=True, metavar="URL", help="nixkeep-cache: http://HOST:PORT or unix:/PATH")
-        who = it.add_mutually_exclusive_group(required=True)
+    for command in (sweep, verify):
+        command.add_argument("--server", required=True, metavar="URL",
+                             help="nixkeep-cache: http://HOST:PORT or unix:/PATH")
+        who = command.add_mutually_exclusive_group(required=True)
         who.add_argument("--user", metavar="USER[:GROUP]", help="the caller")
         who.add_argument("--config", metavar="FILE", help="the store's configuration, whose first user is the caller")
     return top
@@ -47,9 +48,9 @@ def answer_of(server, *request):
 def sweep(said):
     """Asks for a sweep. It fails if a blob couldn't be deleted."""
     lines = [f"grace: {said.grace}"] * (said.grace is not None) + ["dry-run: true"] * said.dry_run
-    text = answer_of(server_of(said), "POST", "/sweep", "".join(f"{it}\n" for it in [*lines, ""]).encode()).text()
+    text = answer_of(server_of(said), "POST", "/sweep", "".join(f"{line}\n" for line in [*lines, ""]).encode()).text()
     streams.write(streams.shown([text.encode()]))
-    return FAILED if any(it.startswith("failed ") for it in text.splitlines()) else DONE
+    return FAILED if any(line.startswith("failed ") for line in text.splitlines()) else DONE
 
 
 def listed(server):
@@ -71,14 +72,15 @@ def fault(place, name, wanted):
         return str(damaged).replace("blob-damaged", "damaged", 1)
     except OSError as error:
         return f"damaged {name} in the blobs: {error.strerror or error}:"
-    return "damaged: its file isn't the one that was put there" if any(it != figures for _, it in wanted) else None
+    return ("damaged: its file isn't the one that was put there"
+            if any(known != figures for _, known in wanted) else None)
 
 
 def verify(said):
     """Reads all blobs. What is wrong is asked for once more, since a sweep may have deleted it meanwhile."""
     server, place = server_of(said), blobs.place_of(said.blobs, "", said.blobs_endpoint)
     by_name, faults = names_of(server), {}
-    there = {it.name: it.size for it in place.list()}
+    there = {blob.name: blob.size for blob in place.list()}
     everything = sorted({*there, *by_name})
     progress = Progress("verified", sum(there.values()), len(everything))
     for name in everything:
@@ -89,10 +91,10 @@ def verify(said):
     again = names_of(server) if faults else {}
     lines = [f"{why} {name} {' '.join(path for path, _ in again.get(name, []))}".rstrip()
              for name, why in faults.items() if name in again or name in there]
-    missing = sum(it.startswith("missing") for it in lines)
+    missing = sum(line.startswith("missing") for line in lines)
     total = f"verified {count_of(len(everything), 'blob')} {count_of(sum(there.values()), 'byte')}: {missing} missing, "
     total += f"{len(lines) - missing} damaged, {len({*there} - {*by_name})} that no object names"
-    streams.write(streams.shown([f"{it}\n".encode() for it in [*lines, total]]))
+    streams.write(streams.shown([f"{line}\n".encode() for line in [*lines, total]]))
     return FAILED if lines else DONE
 
 

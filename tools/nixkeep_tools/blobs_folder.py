@@ -24,8 +24,9 @@ def locking(name, flags):
 
 
 def reading(name, flags):
-    """The opener of a blob, which never waits: what isn't a file has no bytes."""
-    return os.open(name, flags | os.O_NONBLOCK)
+    """The opener of a blob, which never waits: what isn't a file has no bytes. Root reads blobs to verify them, and is
+    led to no device by a link: some act as soon as they are opened."""
+    return os.open(name, flags | os.O_NONBLOCK | os.O_NOFOLLOW)
 
 
 class Folder:
@@ -87,12 +88,12 @@ class Folder:
         return opened
 
     def list(self) -> Iterator[blobs.Blob]:
-        for entry in sorted(os.scandir(self.folder), key=lambda it: it.name):
+        for entry in sorted(os.scandir(self.folder), key=lambda entry: entry.name):
             if len(entry.name) == 2 and entry.is_dir():
                 yield from self.listed(entry)
 
     def listed(self, folder: os.DirEntry[str]) -> Iterator[blobs.Blob]:
-        for entry in sorted(os.scandir(folder), key=lambda it: it.name):
+        for entry in sorted(os.scandir(folder), key=lambda entry: entry.name):
             if name := blobs.named(f"{folder.name}/{entry.name}"):
                 with contextlib.suppress(FileNotFoundError):
                     status = entry.stat(follow_symlinks=False)

@@ -94,8 +94,8 @@ def together(middlewares: list[Callable]) -> Callable:
 
     @web.middleware
     async def answered(request, handler):
-        for it in reversed(middlewares):
-            handler = functools.partial(it, handler=handler)
+        for middleware in reversed(middlewares):
+            handler = functools.partial(middleware, handler=handler)
         return await handler(request)
 
     return answered
@@ -103,7 +103,7 @@ def together(middlewares: list[Callable]) -> Callable:
 
 def dispatched(parts):
     """The handler of all targets. Routes of aiohttp's would undo percent signs in them."""
-    routes = [it for part in parts for it in part.routes()]
+    routes = [route for part in parts for route in part.routes()]
 
     async def answer(request):
         for methods, form, handler in routes:
@@ -174,7 +174,7 @@ async def application(said, server, waiting, settings, signing, is_local):
     made.cleanup_ctx.extend([begun(server), expiring(waiting, sessions, watched.day)])
     made.on_response_prepare.append(begins)
     made.on_shutdown.append(ending.begin)
-    archives = next(it for it in parts if isinstance(it, Archives))
+    archives = next(part for part in parts if isinstance(part, Archives))
     loop = asyncio.get_running_loop()
     loop.set_default_executor(ThreadPoolExecutor(THREADS, "archives"))
     loop.at_once = AtOnce(reader(fixed, is_local), server, archives, watching, fair, ending)
@@ -182,21 +182,25 @@ async def application(said, server, waiting, settings, signing, is_local):
 
 
 def begun(server):
-    """Starts the server ahead of the first request, and says when it answers. Ends it at the end."""
+    """Starts the server ahead of the first request, and says when it answers. Ends it at the end, and this process
+    where no other server is started."""
 
     async def first_answer():
         while True:
-            try:
+            with contextlib.suppress(Unreachable):
                 await server.ask(Caller("nixkeep-cache", None), "GET", "/")
                 return notify("READY=1")
-            except Unreachable:
-                continue
-            except cache_child.Refused as refused:
-                print(f"nixkeep-cache: {refused}", file=sys.stderr, flush=True)
-                raise web.GracefulExit() from None
+
+    async def watched():
+        try:
+            await first_answer()
+            await server.place.ended()
+        except cache_child.Refused as refused:
+            print(f"nixkeep-cache: {refused.line}", file=sys.stderr, flush=True)
+            raise web.GracefulExit() from None
 
     async def running(_):
-        task = asyncio.create_task(first_answer())
+        task = asyncio.create_task(watched())
         yield
         task.cancel()
         await server.end()
@@ -241,7 +245,7 @@ def main(words: list[str] | None = None) -> None:
         sys.exit(f"nixkeep-cache: {error}")
     # A client's malformed head is answered; it is no line for the journal.
     logging.getLogger("aiohttp.server").addFilter(
-        lambda it: not (it.exc_info and isinstance(it.exc_info[1], HttpProcessingError))
+        lambda record: not (record.exc_info and isinstance(record.exc_info[1], HttpProcessingError))
     )
     where = cache_listening.where(said.listen)
     if said.db:

@@ -84,7 +84,7 @@ class Archives:
         if failed:
             return passed(failed)
         if request.method == "HEAD":
-            self.sessions.asked(caller, base)
+            self.sessions.remember(caller, base)
         if not base:
             return reply(404, "no such path\n")
         # (by HEAD a client learns what it has to upload, which the server says)
@@ -108,10 +108,10 @@ class Archives:
         """An archive, if the object has this hash now. A cache that has it asks by `if-none-match`."""
         caller = request["caller"]
         kept = cache_encoding.tag_kept(request, digest)
-        asked = [Request(caller, "GET", f"/info/{base}")]
-        asked += [] if kept or request.method == "HEAD" else [Request(caller, "GET", f"/nar/{base}")]
-        async with self.sending.reserved(request, len(asked) > 1):
-            record, *archive = await self.server.asks(asked)
+        requests = [Request(caller, "GET", f"/info/{base}")]
+        requests += [] if kept or request.method == "HEAD" else [Request(caller, "GET", f"/nar/{base}")]
+        async with self.sending.reserved(request, len(requests) > 1):
+            record, *archive = await self.server.asks(requests)
             answer = await cache_encoding.encoded(request, archived(digest, kept, record, *archive), digest)
             await self.sending.room(request, answer)
             return await self.sending.send(request, answer)

@@ -37,7 +37,7 @@ REPLY = (f"HTTP/1.1 200 OK\r\ncontent-type: {RECORD_KIND}\r\ncache-control: {MIN
          f"Date: %s\r\nServer: {http.SERVER_SOFTWARE}\r\n%s\r\n")
 
 
-class Asked(dict):
+class Request(dict):
     """A request as observers see it, with its `caller`."""
 
     method = "GET"
@@ -47,11 +47,11 @@ def message(fields):
     """The head of a request with these fields, as aiohttp reads it; None where that isn't one head and nothing else."""
     heads = cache_heads.Heads(http.HttpRequestParser(asyncio.BaseProtocol(), None, 2**16))
     try:
-        found, *_ = heads.feed_data(b"GET / HTTP/1.1\r\n" + fields)
+        messages, *_ = heads.feed_data(b"GET / HTTP/1.1\r\n" + fields)
     except HttpProcessingError:
         return None
-    is_one = len(found) == 1 and not heads.held
-    return found[0][0] if is_one and not any(it in found[0][0].headers for it in MORE) else None
+    is_one = len(messages) == 1 and not heads.held
+    return messages[0][0] if is_one and not any(field in messages[0][0].headers for field in MORE) else None
 
 
 class AtOnce:
@@ -65,9 +65,9 @@ class AtOnce:
 
     def read_head(self, fields: bytes) -> Head | None:
         """The fields of a head, which end with an empty line."""
-        said = message(fields)
-        caller = said and self.caller(said)
-        return Head(caller, said.should_close, Asked(caller=caller)) if caller else None
+        head = message(fields)
+        caller = head and self.caller(head)
+        return Head(caller, head.should_close, Request(caller=caller)) if caller else None
 
     def reply(self, data: bytes) -> tuple[bytes, bool] | None:
         """The reply to a request, and whether the connection ends with it; None where aiohttp has to answer."""
@@ -100,11 +100,13 @@ class Connection(asyncio.Protocol):
 
     def connection_made(self, transport: asyncio.Transport) -> None:
         self.transport, transport.max_size = transport, FIRST
+        self.at_once.ending.connected.add(self)
         connected = transport.get_extra_info("socket")
         if connected is not None and connected.family != socket.AF_UNIX:
             connected.setsockopt(socket.SOL_SOCKET, socket.SO_KEEPALIVE, 1)
 
     def data_received(self, data: bytes) -> None:
+        self.at_once.ending.connected.discard(self)
         answer = self.at_once.reply(data)
         if not answer:
             return self.leave(data)
@@ -149,6 +151,7 @@ class Connection(asyncio.Protocol):
         self.transport.resume_reading()
 
     def connection_lost(self, _: Exception | None) -> None:
+        self.at_once.ending.connected.discard(self)
         self.stop()
 
 

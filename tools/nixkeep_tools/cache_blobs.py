@@ -64,15 +64,15 @@ class Blobs:
         done later could take what was uploaded meanwhile. Raises Failed."""
         if self.ends is None:
             return await self.apart(work, *words)
-        asked, late = (asyncio.ensure_future(it) for it in (self.apart(work, *words), self.late()))
-        asked.add_done_callback(lambda it: it.cancelled() or it.exception())
+        task, late = (asyncio.ensure_future(coroutine) for coroutine in (self.apart(work, *words), self.late()))
+        task.add_done_callback(lambda done: done.cancelled() or done.exception())
         try:
-            await asyncio.wait({asked, late}, return_when=asyncio.FIRST_COMPLETED)
+            await asyncio.wait({task, late}, return_when=asyncio.FIRST_COMPLETED)
         finally:
             late.cancel()
-        if not asked.done():
+        if not task.done():
             raise blobs.Failed("the blobs don't answer, and nixkeep-cache ends: try again later")
-        return asked.result()
+        return task.result()
 
     async def late(self):
         await self.ends.wait()
@@ -188,7 +188,7 @@ class Blobs:
         tag = paths.base32(blob_reading.hash_of(pointer, form))
         head = {"content-type": "application/octet-stream", "cache-control": "max-age=60",
                 "accept-ranges": "bytes", "etag": f'"{tag}"'}
-        if any(it.value == tag for it in request.if_none_match or ()):
+        if any(known.value == tag for known in request.if_none_match or ()):
             return web.Response(status=304, body=b"", headers=head)
         start, end = ranged(request, tag, whole)
         if start >= whole:
@@ -267,9 +267,9 @@ class Blobs:
 
 async def moving(pieces: AsyncIterable[bytes], held: Held) -> AsyncIterator[bytes]:
     """Yields pieces. Their client has its turn while the next one is waited for, and at no other time."""
-    async for it in pieces:
+    async for piece in pieces:
         held.is_safe = True
-        yield it
+        yield piece
         held.moved()
     held.is_safe = True
 

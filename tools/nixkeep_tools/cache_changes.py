@@ -33,11 +33,11 @@ def note(request: web.Request, given: bytes, text: bytes = b"") -> None:
 def line(seen):
     """The line of a request, as a dictionary."""
     request, caller = seen.request, seen.request.get("caller")
-    named = [it.decode("utf-8", "replace") for key in ("named", "changed") for it in request.get(key, ())]
-    named = [it.rpartition("/")[2] for it in named]
+    named = [path.decode("utf-8", "replace") for key in ("named", "changed") for path in request.get(key, ())]
+    named = [path.rpartition("/")[2] for path in named]
     paths = [*dict.fromkeys(filter(BASE.fullmatch, named))]
     most, target = (MOST, LONG) if seen.status < 400 else (FEW, SHORT)
-    found = {
+    fields = {
         "time": datetime.datetime.now(datetime.timezone.utc).isoformat(timespec="milliseconds"),
         "user": caller and caller.user,
         "group": caller and caller.group,
@@ -49,7 +49,7 @@ def line(seen):
         "bytes": seen.received,
         "seconds": round(seen.seconds, 3),
     }
-    return found | ({"more": len(paths) - most} if len(paths) > most else {})
+    return fields | ({"more": len(paths) - most} if len(paths) > most else {})
 
 
 class Record:

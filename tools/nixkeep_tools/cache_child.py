@@ -15,15 +15,17 @@ from .cache_server import AHEAD, BROKEN, Caller, Request, message, read_reply
 LEAST, MOST, WELL = 0.5, 60, 60
 # The seconds in which a server has to end by itself.
 END = 10
-# Statuses of a command line or a store that is refused. Another start wouldn't help.
-REFUSED = (2, 3)
+# Statuses of a command line or a store that is refused. Another start wouldn't help. And that of other ends.
+REFUSED, FAILED = (2, 3), 1
+# What a client gets whose request the server hasn't answered.
+ENDED = "the server has ended: try again later"
 
 
 def program_near(file: str) -> str:
     """The program `nixkeep`: next to a tool, or on the path. A checkout has its own, as installations have."""
     here = Path(file).resolve().parent
     near = [f"{here}/nixkeep", f"{here}/../../bin/nixkeep", f"{here}/../bin/nixkeep"]
-    return next((it for it in near if os.access(it, os.X_OK)), shutil.which("nixkeep") or "nixkeep")
+    return next((path for path in near if os.access(path, os.X_OK)), shutil.which("nixkeep") or "nixkeep")
 
 
 def identity(program: str) -> tuple | None:
@@ -35,11 +37,11 @@ def identity(program: str) -> tuple | None:
 
 
 class Refused(Exception):
-    """The server ended before it ever answered, with the status of a refusal."""
+    """The server has ended, and no other one is started. `line` says why; the text is for clients."""
 
-    def __init__(self, status: int):
-        super().__init__(f"the server ended with status {status} before its first answer")
-        self.status = status
+    def __init__(self, line: str, text: str | None = None):
+        super().__init__(text or line)
+        self.line = line
 
 
 class Child:
@@ -65,17 +67,27 @@ class Child:
             await asyncio.sleep(0.01)
         return process.stdout, process.stdin
 
+    async def ended(self) -> None:
+        """Waits until no other server is started. Raises Refused."""
+        await asyncio.shield(self.running)
+        await self.ready
+
     async def run(self) -> None:
-        """Starts a server again and again."""
+        """Starts a server again and again. Where no other one is started, whoever waits for one is refused at once: the
+        end of this process would wait for them."""
         now, delay, has_answered = asyncio.get_running_loop().time, 0, False
         while True:
             began = now()
-            status, answers = await self.serve()
-            has_answered |= answers
-            if status in REFUSED and not has_answered:
-                self.refused = status
-                return self.ready.set_exception(Refused(status))
-            self.refuse_another()
+            try:
+                status, answers = await self.serve()
+                has_answered |= answers
+                if status in REFUSED and not has_answered:
+                    self.refused = status
+                    raise Refused(f"the server ended with status {status} before its first answer")
+                self.refuse_another()
+            except Refused as refused:
+                self.refused = self.refused or FAILED
+                return self.ready.set_exception(refused)
             delay = 0 if now() - began > WELL else min(MOST, max(LEAST, 2 * delay))
             self.why = f"it ended with status {status}"
             print(f"nixkeep-cache: the server ended with status {status}; the next start is in {delay:g} s",
@@ -83,21 +95,22 @@ class Child:
             await asyncio.sleep(delay)
 
     def refuse_another(self) -> None:
-        """Ends this process if the program was replaced, as by an upgrade that has restarted nothing: another one may
+        """Raises Refused if the program was replaced, as by an upgrade that has restarted nothing: another one may
         migrate the file, and what starts this process makes a copy of it before."""
         if self.identity != identity(self.words[0]):
-            sys.exit(f"nixkeep-cache: the server has ended, and {self.words[0]} is another program by now: "
-                     "start this again")
+            raise Refused(f"the server has ended, and {self.words[0]} is another program by now: start this again",
+                          ENDED)
 
     async def serve(self) -> tuple[int, bool]:
-        """Starts a server, and waits for its end. Returns its status, and whether it has answered."""
+        """Starts a server, and waits for its end. Returns its status, and whether it has answered. Raises Refused where
+        none can be started."""
         pipe, answers, self.opened = asyncio.subprocess.PIPE, False, None
         try:
             self.process = await asyncio.create_subprocess_exec(*self.words, stdin=pipe, stdout=pipe, limit=AHEAD)
             with contextlib.suppress(ProcessLookupError):
                 self.handle = os.pidfd_open(self.process.pid)
         except OSError as error:
-            sys.exit(f"nixkeep-cache: {self.words[0]}: {error}")
+            raise Refused(f"{self.words[0]}: {error}", ENDED) from None
         with contextlib.suppress(*BROKEN):
             # (it answers once the file is open, which takes long for a large one)
             self.process.stdin.write(message(Request(Caller("nixkeep-cache", None), "GET", "/"))[0])

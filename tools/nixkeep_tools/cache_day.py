@@ -21,19 +21,19 @@ def empty(since):
     return {"since": since, "sums": dict.fromkeys(SUMS, 0), "slowest": 0, "routes": {}, "users": {}}
 
 
-def sums_of(found, name):
+def sums_of(by_name, name):
     """The sums of a route or of a user, which begin with the first request."""
-    if name not in found:
-        found[name] = dict.fromkeys(SUMS, 0)
-    return found[name]
+    if name not in by_name:
+        by_name[name] = dict.fromkeys(SUMS, 0)
+    return by_name[name]
 
 
-def is_part(it):
+def is_part(part):
     """Whether a part that was read is one: this file is no store, and may have been cut off."""
-    sums = [it.get("sums"), *it.get("routes", {}).values(), *it.get("users", {}).values()]
+    sums = [part.get("sums"), *part.get("routes", {}).values(), *part.get("users", {}).values()]
     is_number = lambda value: isinstance(value, (int, float))
-    is_all = all(set(found) == set(SUMS) and all(map(is_number, found.values())) for found in sums)
-    return isinstance(it.get("since"), int) and is_number(it.get("slowest")) and is_all
+    is_all = all(set(each) == set(SUMS) and all(map(is_number, each.values())) for each in sums)
+    return isinstance(part.get("since"), int) and is_number(part.get("slowest")) and is_all
 
 
 class Day:
@@ -43,7 +43,7 @@ class Day:
         self.file, self.parts = file, []
         with contextlib.suppress(OSError, ValueError, AttributeError, TypeError):
             with open(file, encoding="ascii") as text:
-                self.parts = [it for it in json.load(text) if is_part(it)]
+                self.parts = [part for part in json.load(text) if is_part(part)]
 
     def now(self) -> dict:
         """The part of now. Those that are older than a day are dropped."""
@@ -77,20 +77,20 @@ class Day:
     def spans(self) -> list[dict]:
         """The parts of the whole day, also those without a request, the oldest first."""
         last = self.now()["since"]
-        found = {it["since"]: it for it in self.parts}
+        by_start = {part["since"]: part for part in self.parts}
         times = [last - SPAN * at for at in reversed(range(PARTS))]
-        return [found.get(it) or empty(it) for it in times]
+        return [by_start.get(since) or empty(since) for since in times]
 
     def together(self, key: str) -> list[tuple[str, dict]]:
         """The sums of the day by route or by user, those with most requests first."""
-        found = collections.defaultdict(lambda: dict.fromkeys(SUMS, 0))
+        by_name = collections.defaultdict(lambda: dict.fromkeys(SUMS, 0))
         for part in self.parts:
             for name, sums in part[key].items():
                 for word in SUMS:
-                    found[name][word] += sums[word]
-        return sorted(found.items(), key=lambda it: (-it[1]["requests"], it[0]))
+                    by_name[name][word] += sums[word]
+        return sorted(by_name.items(), key=lambda pair: (-pair[1]["requests"], pair[0]))
 
     def sums(self) -> dict:
         parts = self.spans()
-        found = {word: sum(it["sums"][word] for it in parts) for word in SUMS}
-        return found | {"slowest": max(it["slowest"] for it in parts)}
+        total = {word: sum(part["sums"][word] for part in parts) for word in SUMS}
+        return total | {"slowest": max(part["slowest"] for part in parts)}

@@ -20,7 +20,7 @@ REFUSED = re.compile(r"q *= *0(\.0*)?")
 def accepts(request):
     """Whether a client reads zstd, by its `accept-encoding`."""
     for item in ",".join(request.headers.getall("accept-encoding", [])).lower().split(","):
-        name, *more = [it.strip() for it in item.split(";")]
+        name, *more = [part.strip() for part in item.split(";")]
         if name == "zstd":
             return bool(zstandard) and not any(map(REFUSED.fullmatch, more))
     return False
@@ -34,7 +34,7 @@ def tag_of(digest):
 def tag_kept(request: web.Request, digest: str) -> str | None:
     """The tag by which a client has the archive already, or None."""
     tags = [digest, *([tag_of(digest)] if accepts(request) else [])]
-    return next((it.value for it in request.if_none_match or () if it.value in tags), None)
+    return next((tag.value for tag in request.if_none_match or () if tag.value in tags), None)
 
 
 def packed(data):

@@ -2,15 +2,16 @@
 import asyncio
 import contextlib
 import itertools
+import time
 
 from aiohttp import web
 
 from .cache_http import Handler
 from .cache_room import is_gone
 
-# The seconds in which requests that have come are answered, which an exchange with the server may take, and those in
-# which a client that has just connected sends its request.
-FINISH, LINGER = 300, 0.2
+# The seconds in which requests that have come are answered, which an exchange with the server may take; those in which
+# what is on its way comes, and those in which a client that has just connected sends its request on a busy machine.
+FINISH, LINGER, CONNECTED = 300, 0.2, 3
 # The seconds between two looks at the clients that are waited for, the bytes that each has to move meanwhile, and the
 # number of looks after which no reply is waited for, however fast its client takes it.
 LOOK, LEAST, LAST = 20, 20 << 20, 2
@@ -22,10 +23,12 @@ def moved(request):
 
 
 class Ending:
-    """Counts the requests that are being answered. Once the end has begun each reply closes its connection."""
+    """Counts the requests that are being answered, and has the connections on which nothing has come. Once the end has
+    begun each reply closes its connection."""
 
     def __init__(self):
         self.running, self.begun, self.is_idle = {}, asyncio.Event(), asyncio.Event()
+        self.connected = set()
         self.is_idle.set()
 
     @web.middleware
@@ -48,14 +51,17 @@ class Ending:
 
     def leave_gone(self) -> None:
         """Waits no more for clients that have left. A user may have thousands of these."""
-        for key, it in [*self.running.items()]:
-            if is_gone(it):
+        for key, request in [*self.running.items()]:
+            if is_gone(request):
                 self.left(key)
 
     async def begin(self, _: web.Application) -> None:
         """Waits for what is on its way. aiohttp would cut off a body that hasn't come whole."""
         self.begun.set()
+        until = time.monotonic() + CONNECTED
         await asyncio.sleep(LINGER)
+        while self.connected and time.monotonic() < until:
+            await asyncio.sleep(LINGER)
         self.leave_gone()
         cutting = asyncio.ensure_future(self.cut_slow())
         with contextlib.suppress(TimeoutError):
@@ -67,12 +73,12 @@ class Ending:
         """Closes the connections of slow clients, since all others wait for the next start. The archives that a fast
         one takes may be of any size, so it loses its connection as well, but later: Nix asks for the rest then."""
         for look in itertools.count(1):
-            before = {key: moved(it) for key, it in self.running.items()}
+            before = {key: moved(request) for key, request in self.running.items()}
             await asyncio.sleep(LOOK)
             self.leave_gone()
-            for key, it in [*self.running.items()]:
-                is_slow = it.get("waits") and moved(it) - before.get(key, 0) < LEAST
-                if it.transport and (is_slow or look >= LAST and "sent" in it):
-                    it.transport.abort()
+            for key, request in [*self.running.items()]:
+                is_slow = request.get("waits") and moved(request) - before.get(key, 0) < LEAST
+                if request.transport and (is_slow or look >= LAST and "sent" in request):
+                    request.transport.abort()
                     # (what is read for it may not come either, as from a bucket that hangs)
                     self.left(key)

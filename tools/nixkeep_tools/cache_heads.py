@@ -37,22 +37,22 @@ class Heads:
         """As of aiohttp's parsers: the requests in some bytes. Raises BadHttpMessage."""
         if self.is_free or self.is_bad:
             return self.parser.feed_data(data) if self.is_free else ([], False, b"")
-        data, self.held, found = self.held + data, b"", []
+        data, self.held, messages = self.held + data, b"", []
         try:
             while data and not self.is_free and (self.left or not self.is_asked):
                 size = min(self.left, len(data)) or self.head(data)
                 if not size:
                     break
-                found += self.given(data[:size])
+                messages += self.given(data[:size])
                 data = data[size:]
         except Exception:
             self.is_bad = True
             raise
         if data and self.is_free:
-            found += self.parser.feed_data(data)[0]
+            messages += self.parser.feed_data(data)[0]
         elif data:
             self.hold(data)
-        return found, False, b""
+        return messages, False, b""
 
     def head(self, data: bytes) -> int:
         """The bytes of a head among these that can be passed on: up to its end, or to a name that isn't whole."""
@@ -81,18 +81,18 @@ class Heads:
         if self.left:
             self.left -= len(data)
             return self.parser.feed_data(data)[0]
-        found, is_upgrade, _ = self.parser.feed_data(data)
+        messages, is_upgrade, _ = self.parser.feed_data(data)
         # (no other protocol is spoken here)
         if is_upgrade:
             self.parser.set_upgraded(False)
-        if bool(found) != self.is_first and data.strip(b"\r\n"):
+        if bool(messages) != self.is_first and data.strip(b"\r\n"):
             raise BadHttpMessage(BAD)
-        for message, _ in found:
+        for message, _ in messages:
             self.is_asked = True
             self.left = int(message.headers.get("content-length", 0))
             # (such a request is refused, and the last one of its connection)
             self.is_free = "transfer-encoding" in message.headers or message.method == "CONNECT"
-        return found
+        return messages
 
     def hold(self, data: bytes) -> None:
         self.held = data

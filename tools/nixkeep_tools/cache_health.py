@@ -34,11 +34,11 @@ class Health:
             self.asking, self.until = asyncio.ensure_future(self.ask()), now + FRESH
         answers = await asyncio.shield(self.asking)
         is_well = all(answers.values())
-        text = {key: "answers" if it else "doesn't answer" for key, it in answers.items()}
+        text = {key: "answers" if is_up else "doesn't answer" for key, is_up in answers.items()}
         return reply(200 if is_well else 503, json.dumps(text) + "\n", "application/json")
 
     async def ask(self) -> dict[str, bool]:
-        return {key: await self.in_time(it) for key, it in self.checks.items()}
+        return {key: await self.in_time(check) for key, check in self.checks.items()}
 
     async def in_time(self, check):
         try:

@@ -112,18 +112,18 @@ async def pieces(request: web.Request, idle: float) -> AsyncIterator[bytes]:
 
 async def body(request: web.Request, most: int, idle: float, held: Held | None = None) -> bytes | None:
     """The body whole, or None if it is longer than `most` bytes. `held` is the room that it has, if it has any."""
-    found = bytearray()
+    data = bytearray()
     if (request.content_length or 0) > most:
         return None
     async for piece in pieces(request, idle):
-        found += piece
-        if len(found) > most:
+        data += piece
+        if len(data) > most:
             return None
         if held:
             held.moved()
     if held:
         held.is_safe = True
-    return bytes(found)
+    return bytes(data)
 
 
 class Sending(Room):

@@ -43,9 +43,9 @@ def read_word(word):
 
 def with_hash(head, archive):
     """The head of an import, for a pointer in the place of its archive, and without a content address."""
-    lines = [it for it in head.decode().split("\n") if not it.startswith("ca: ")]
+    lines = [line for line in head.decode().split("\n") if not line.startswith("ca: ")]
     hashed = f"nar-hash: {paths.nar_hash(paths.sha256([archive]))}"
-    return "\n".join(hashed if it.startswith("nar-hash: ") else it for it in lines).encode()
+    return "\n".join(hashed if line.startswith("nar-hash: ") else line for line in lines).encode()
 
 
 def said(head: bytes, key: str) -> str:
@@ -99,7 +99,7 @@ class Large:
         """Makes an archive that comes in pieces a blob, which waits for its record. Raises Bad."""
         digits, caller = cache_records.file_named(name), request["caller"]
         await self.demand_trust(caller)
-        compression = next(key for key, it in cache_records.SUFFIXES.items() if name.endswith(f".nar{it}"))
+        compression = next(key for key, suffix in cache_records.SUFFIXES.items() if name.endswith(f".nar{suffix}"))
         async with self.blobs.taken(request, compression, given) as (part, made):
             if paths.base32(made.sent) != digits:
                 raise Bad(f"nar/{name} has another SHA-256: {paths.nar_hash(made.sent)}")
@@ -141,8 +141,8 @@ class Large:
             self.blobs.relied[name] = time.time()
             if await self.blobs.size(name) != made.file_size:
                 raise Bad(f"the archive of {base} isn't here any more: upload it again")
-            given = with_hash(head, archive) + archive
-            answer = await self.uploads.imported(caller, base, given, made.nar_size, name)
+            data = with_hash(head, archive) + archive
+            answer = await self.uploads.imported(caller, base, data, made.nar_size, name)
         return passed(answer) if answer.status != 200 else await self.checked(caller, base, pointer, answer)
 
     async def checked(self, caller: Caller, base: str, pointer: pointers.Pointer, answer: Reply) -> web.Response:
@@ -170,17 +170,17 @@ class Large:
             cache_changes.note(request, head)
             return await self.import_pieces(request, head, again(first, given), request.content_length)
 
-    async def import_whole(self, request, _, given):
+    async def import_whole(self, request, _, data):
         """The reply to an import with a large archive, or None for another one, which the store does. Raises
         Answered."""
-        end = given.find(b"\n\n") + 2
-        head, size = given[:end], len(given) - end
+        end = data.find(b"\n\n") + 2
+        head, size = data[:end], len(data) - end
         # (20 MB are in memory once)
         if end > 1 and size > self.least:
-            parts = (given[at : at + PIECE] for at in range(end, len(given), PIECE))
-            return await self.import_pieces(request, head, coming(parts), len(given))
+            parts = (data[at : at + PIECE] for at in range(end, len(data), PIECE))
+            return await self.import_pieces(request, head, coming(parts), len(data))
         if end > 1 and size == pointers.SIZE:
-            self.refuse_pointer(said(head, "ca"), said(head, "path"), given[end:])
+            self.refuse_pointer(said(head, "ca"), said(head, "path"), data[end:])
         return None
 
     def refuse_pointer(self, address: str | bool, path: str, archive: bytes) -> None:
@@ -237,9 +237,9 @@ class Large:
         _, pointer = await self.pointers.at(request["caller"], base)
         return await self.blobs.send(request, pointer, "none") if pointer else answer
 
-    async def own_record(self, request, base, caller, given):
+    async def own_record(self, request, base, caller, data):
         """The reply with a record, which may be long; None for a request with a body, which the store refuses."""
-        if given not in (b"", b"\n"):
+        if data not in (b"", b"\n"):
             return None
         text, pointer = await self.pointers.at(caller, base)
         answer, sending = reply(200, real(text, pointer) if pointer else text), self.passing.sending
@@ -266,10 +266,11 @@ class Large:
         # (one is made at a time, and users take turns: each has the names of all objects in memory)
         async with self.turns.turn(caller.user):
             demand_client(request)
-            found = await self.pointers.among(caller, await self.pointers.listed(caller))
-        lines = [f"{it.path} {paths.nar_hash(it.nar_hash)} {it.nar_size} {paths.nar_hash(it.file_hash)} {it.file_size}"
-                 for _, it in sorted(found.items())]
-        answer, sending = reply(200, "".join(f"{it}\n" for it in lines)), self.passing.sending
+            by_base = await self.pointers.among(caller, await self.pointers.listed(caller))
+        lines = [f"{pointer.path} {paths.nar_hash(pointer.nar_hash)} {pointer.nar_size} "
+                 f"{paths.nar_hash(pointer.file_hash)} {pointer.file_size}"
+                 for _, pointer in sorted(by_base.items())]
+        answer, sending = reply(200, "".join(f"{line}\n" for line in lines)), self.passing.sending
         await sending.room(request, answer)
         return await sending.send(request, answer)
 
@@ -280,7 +281,7 @@ def real(text, pointer, base=None, form="none"):
               "FileHash": paths.nar_hash(blob_reading.hash_of(pointer, form)),
               "FileSize": blob_reading.size_of(pointer, form)}
     fields |= {"URL": f"large/{paths.base32(pointer.nar_hash)}/{form}/{base}"} if base else {}
-    put = lambda found: f"{found[1]}: {fields.get(found[1], found[2])}"
+    put = lambda match: f"{match[1]}: {fields.get(match[1], match[2])}"
     return re.sub(r"^(\w+): (.*)$", put, text.decode(), flags=re.M).encode()
 
 
@@ -301,16 +302,16 @@ async def coming(given):
 async def head_of(given: AsyncIterator[bytes], held: Held | None = None) -> tuple[bytes | None, bytes]:
     """The head of an import with its empty line, and what was read of the archive; None for a head that is too long.
     `held` is the room that it has, if it has any."""
-    found = bytearray()
+    data = bytearray()
     async for piece in given:
-        found += piece
+        data += piece
         if held:
             held.moved()
         # (a piece may be a byte, so what came before isn't looked at again)
-        end = found.find(b"\n\n", max(0, len(found) - len(piece) - 1)) + 2
+        end = data.find(b"\n\n", max(0, len(data) - len(piece) - 1)) + 2
         if end > 1:
-            return bytes(found[:end]), bytes(found[end:])
-        if len(found) > HEAD:
+            return bytes(data[:end]), bytes(data[end:])
+        if len(data) > HEAD:
             break
     return None, b""
 

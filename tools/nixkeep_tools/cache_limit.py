@@ -98,12 +98,12 @@ class Limit:
 
     def near(self) -> list[str]:
         """What is nearly as much as it may be: the file, and the memory of the server's next start."""
-        found, start = [], self.started()
+        lines, start = [], self.started()
         if self.most is not None and self.used > WARNED * self.most:
-            found.append(f"the store has {self.used} of {self.most} bytes")
+            lines.append(f"the store has {self.used} of {self.most} bytes")
         if start and start + self.own() > WARNED * STARTS * self.memory:
-            found.append(f"the server's next start takes {start} of {self.memory} bytes of memory")
-        return found
+            lines.append(f"the server's next start takes {start} of {self.memory} bytes of memory")
+        return lines
 
     def left(self) -> int | None:
         """The bytes of memory that are left for what lasts, such as figures; None where the server's aren't known."""
@@ -126,6 +126,6 @@ class Limit:
         except FileNotFoundError:
             self.used = 0
         if self.looked - self.warned > WARN:
-            for it in self.near():
+            for line in self.near():
                 self.warned = self.looked
-                print(f"nixkeep-cache: warning: {it}", file=sys.stderr, flush=True)
+                print(f"nixkeep-cache: warning: {line}", file=sys.stderr, flush=True)

@@ -30,19 +30,19 @@ def passed():
     os.environ.pop("LISTEN_FDNAMES", None)
     if pid != str(os.getpid()) or not count.isdigit():
         return []
-    found = [socket.socket(fileno=FIRST + at) for at in range(int(count))]
-    for it in found:
-        it.set_inheritable(False)
-    return found
+    sockets = [socket.socket(fileno=FIRST + at) for at in range(int(count))]
+    for opened in sockets:
+        opened.set_inheritable(False)
+    return sockets
 
 
-def where(asked: str | tuple[str, int] | None) -> dict:
+def where(wanted: str | tuple[str, int] | None) -> dict:
     """What aiohttp is to listen on: the place that was asked for, else the sockets passed, else the usual port."""
     given = passed()
-    if asked is None and given:
+    if wanted is None and given:
         return {"sock": given}
-    asked = asked or DEFAULT
-    return {"path": asked} if isinstance(asked, str) else {"host": asked[0], "port": asked[1]}
+    wanted = wanted or DEFAULT
+    return {"path": wanted} if isinstance(wanted, str) else {"host": wanted[0], "port": wanted[1]}
 
 
 def removed(where: dict) -> None:

@@ -13,7 +13,7 @@ from .cache_turns import Turns
 
 TARGET = re.compile(r"/ls/(.*)")
 # The bytes of the longest listing that is asked for, those of a line besides names, and the bytes that aren't escaped.
-MOST, LINE, PLAIN = nar.LIMIT, 16, bytes(it for it in range(33, 127) if it != 92)
+MOST, LINE, PLAIN = nar.LIMIT, 16, bytes(code for code in range(33, 127) if code != 92)
 
 
 def shown(text):

@@ -26,9 +26,9 @@ def opened(file: str, table: str) -> sqlite3.Connection:
     except sqlite3.DatabaseError as error:
         warn(f"{file}: {error}; it is begun anew, and {file}.damaged has what it was")
         os.rename(file, f"{file}.damaged")
-        for it in ("-wal", "-shm"):
+        for suffix in ("-wal", "-shm"):
             with contextlib.suppress(FileNotFoundError):
-                os.unlink(file + it)
+                os.unlink(file + suffix)
         create(file)
         return connected(file, table)
 

@@ -62,7 +62,7 @@ class Metrics:
         counts, by_route = [self.requests.labels(method, route, status)], (method, route)
         if route == "record" and method in READ and status in (200, 404):
             counts.append(self.lookups.labels("yes" if status == 200 else "no"))
-        return counts, *(it.labels(*by_route) for it in (self.seconds, self.received, self.sent))
+        return counts, *(metric.labels(*by_route) for metric in (self.seconds, self.received, self.sent))
 
     def routes(self) -> list[Route]:
         return [Route(READ, TARGET, self.page)]
@@ -71,8 +71,8 @@ class Metrics:
         if not prometheus_client:
             return
         counts, seconds, received, sent = self.of(method_of(seen.request), seen.route, seen.status)
-        for it in counts:
-            it.inc()
+        for count in counts:
+            count.inc()
         seconds.observe(seen.seconds)
         received.inc(seen.received)
         sent.inc(seen.sent)
@@ -103,8 +103,8 @@ def of_backup(file: str | None) -> Figures:
 
     def figures():
         state = backup_folder.read_state(file) if file else {}
-        succeeded, failed = (it if isinstance(it, (int, float)) else None
-                             for it in (state.get("succeeded"), state.get("failed")))
+        succeeded, failed = (value if isinstance(value, (int, float)) else None
+                             for value in (state.get("succeeded"), state.get("failed")))
         return [
             ("backup_succeeded_timestamp_seconds", "When the last good copy of the store was made.", succeeded),
             ("backup_age_seconds", "The age of the last good copy.", succeeded and time.time() - succeeded),
@@ -130,7 +130,7 @@ def of_cache(server: Server, watching: Watching, limit: Limit, waiting: Waiting)
             ("start_memory_bytes", "The bytes of memory that the server's next start takes.", limit.started()),
             ("waiting_files", "Uploaded archives that wait for their records, or have not been deleted yet.",
              len(waiting.files)),
-            ("waiting_bytes", "The bytes of these.", sum(it.bytes for it in waiting.files.values())),
+            ("waiting_bytes", "The bytes of these.", sum(file.bytes for file in waiting.files.values())),
         ]
 
     return figures

@@ -48,8 +48,8 @@ class Names:
         self.twins.clear()
         self.added(reply.text)
         self.size = len(reply.text)
-        for it in self.followers:
-            it(bases_in(reply.text))
+        for follow in self.followers:
+            follow(bases_in(reply.text))
         self.connection, self.listed = self.server.connections, time.monotonic()
         return None
 

@@ -18,14 +18,14 @@ def size(text):
 
 
 def parser():
-    asked = argparse.ArgumentParser(
+    top = argparse.ArgumentParser(
         prog="nixkeep-cache",
         description="A binary cache of Nix over `nixkeep serve`: Nix fetches "
         "from it and uploads to it, and the store's own requests pass through.",
     )
-    version.add_to(asked)
-    add, place = asked.add_argument, cache_listening.place
-    who = asked.add_mutually_exclusive_group(required=True)
+    version.add_to(top)
+    add, place = top.add_argument, cache_listening.place
+    who = top.add_mutually_exclusive_group(required=True)
     who.add_argument("--user", type=name, help="the caller that all clients are")
     who.add_argument("--proxied", action="store_true",
                      help="a proxy says who each client is, by the fields store-user and store-group")
@@ -68,21 +68,21 @@ def parser():
         help="how long a server that can't be reached is waited for, as while it starts again [30]")
     add("--list-every", type=float, default=30, metavar="SECONDS",
         help="how often, at most, a path that isn't known is looked for in a new listing [30]")
-    return asked
+    return top
 
 
 def read(words: list[str]) -> argparse.Namespace:
     """The words of the command line, with what follows from them."""
-    asked = parser()
-    said = asked.parse_args(words)
+    top = parser()
+    said = top.parse_args(words)
     if said.group and not said.user:
-        asked.error("--group needs --user")
+        top.error("--group needs --user")
     if said.db and said.store:
-        asked.error("--db starts a server, and --store names one")
+        top.error("--db starts a server, and --store names one")
     if said.blobs and not cache_records.zstandard:
-        asked.error("--blobs needs the Debian package python3-zstandard")
+        top.error("--blobs needs the Debian package python3-zstandard")
     if said.most_bytes is not None and not said.db:
-        asked.error("--most-bytes needs --db")
+        top.error("--most-bytes needs --db")
     if said.db and said.most_bytes is None:
         said.most_bytes = cache_limit.usual()
     said.sign_with = said.sign_with or cache_signing.credential("sign-with")

@@ -15,8 +15,9 @@ def is_of_other_site(request: web.Request) -> bool:
     if request.method in READ:
         return False
     sites, origins = request.headers.getall("sec-fetch-site", []), request.headers.getall("origin", [])
-    hosts = [it.partition("://")[2] for it in origins]
-    return any(it not in OWN for it in sites) or any(it != request.headers.get("host") or not it for it in hosts)
+    hosts = [origin.partition("://")[2] for origin in origins]
+    return any(site not in OWN for site in sites) or any(
+        host != request.headers.get("host") or not host for host in hosts)
 
 
 def is_rebound(request: web.Request) -> bool:

@@ -52,9 +52,9 @@ class Overviews:
         why = urllib.parse.parse_qs((query or "")[1:]).get("why", [""])[0].strip().removeprefix(f"{self.store}/")
         try:
             async with asyncio.timeout(self.longest):
-                found = await asyncio.shield(self.figures(request["caller"]))
+                figures = await asyncio.shield(self.figures(request["caller"]))
                 async with self.pages.turn(request["caller"].user):
-                    text = await self.apart(overview_page.page, found, self.name, "/overview", why)
+                    text = await self.apart(overview_page.page, figures, self.name, "/overview", why)
         except overview_source.Denied as denied:
             return passed(denied.reply)
         except TimeoutError:
@@ -68,12 +68,12 @@ class Overviews:
         now, kept = asyncio.get_running_loop().time(), self.made.get(caller)
         if kept and (not kept[0].done() or kept[1] > now):
             return kept[0]
-        self.made = {key: it for key, it in self.made.items() if not it[0].done() or it[1] > now}
+        self.made = {key: pair for key, pair in self.made.items() if not pair[0].done() or pair[1] > now}
         while len(self.made) >= USERS:
             del self.made[next(iter(self.made))]
         made = asyncio.ensure_future(self.make(caller))
         self.made[caller] = made, now + FRESH
-        made.add_done_callback(lambda it: self.finish(caller, it))
+        made.add_done_callback(lambda task: self.finish(caller, task))
         return made
 
     def finish(self, caller: Caller, made: asyncio.Task) -> None:
@@ -107,7 +107,7 @@ class Overviews:
             text = f"the overview of {objects} objects and {roots} roots takes too much memory: drop roots\n"
             raise Answered(reply(503, text))
         if objects * roots > MOST // USERS or roots > LINES // USERS:
-            self.made = {key: it for key, it in self.made.items() if not it[0].done()}
+            self.made = {key: pair for key, pair in self.made.items() if not pair[0].done()}
 
     async def apart(self, work: Callable, *words: Any) -> Any:
         """What takes long is done in a thread, so that other clients are served meanwhile."""

@@ -90,8 +90,8 @@ class Passing:
         is_deletion = request.target in DELETES
         answer = await (self.sessions.before(request) if is_deletion else self.server.ask(*request))
         if answer.status == 200 and is_deletion:
-            for it in self.followers:
-                it(answer.text)
+            for follow in self.followers:
+                follow(answer.text)
         return answer
 
     async def added(self, request: Request) -> Reply:

@@ -29,11 +29,11 @@ class Pointers:
         if key in self.known:
             return text, self.known[key]
         # (asked together, so that no other request comes between)
-        asked = [Request(caller, "GET", f"/info/{base}"), Request(caller, "GET", f"/nar/{base}")]
-        record, archive = await self.server.asks(asked)
-        for it in (record, archive):
-            if it.status != 200:
-                raise Denied(it)
+        requests = [Request(caller, "GET", f"/info/{base}"), Request(caller, "GET", f"/nar/{base}")]
+        record, archive = await self.server.asks(requests)
+        for answer in (record, archive):
+            if answer.status != 200:
+                raise Denied(answer)
         values = fields(record.text)
         made = pointers.read(archive.text, values["StorePath"]) if not values.get("CA") else None
         self.known[values["StorePath"], values["NarHash"]] = made
@@ -57,7 +57,7 @@ class Pointers:
 
     async def among(self, caller: Caller, bases: list[str]) -> dict[str, pointers.Pointer]:
         """The pointers among these objects by base names. Raises Denied."""
-        found = {}
+        by_base = {}
         async for base, answer in self.server.gets(caller, "/info/", bases):
             if answer.status == 404:
                 continue
@@ -71,7 +71,7 @@ class Pointers:
                 # (it was deleted meanwhile)
                 pointer = None
             if pointer:
-                found[base] = pointer
-        return found
+                by_base[base] = pointer
+        return by_base
 
 

@@ -32,13 +32,13 @@ class Recent:
             self.texts.move_to_end(base)
         return text
 
-    def add(self, base: str, text: bytes, asked: tuple | None) -> None:
-        """Adds a record for which the server was asked when `now` gave `asked`."""
-        if asked is None or asked != self.now():
+    def add(self, base: str, text: bytes, state: tuple | None) -> None:
+        """Adds a record for which the server was asked when `now` gave `state`."""
+        if state is None or state != self.now():
             return
-        if self.of != asked:
+        if self.of != state:
             self.texts.clear()
-            self.of, self.size = asked, 0
+            self.of, self.size = state, 0
         self.size += len(text) + EACH - self.size_of(base)
         self.texts[base] = text
         while self.size > self.most:

@@ -45,11 +45,11 @@ def fields(text: bytes) -> dict[str, str]:
         lines = [line.partition(":") for line in text.decode("ascii").split("\n") if line]
     except UnicodeDecodeError:
         raise Bad("the record isn't ASCII text") from None
-    found = {key: value.strip() for key, colon, value in lines if colon}
+    values = {key: value.strip() for key, colon, value in lines if colon}
     for key in ("StorePath", "URL", "NarHash"):
-        if key not in found:
+        if key not in values:
             raise Bad(f"the record has no {key}")
-    return found
+    return values
 
 
 def file_of(record: dict[str, str]) -> str:
@@ -78,7 +78,7 @@ def import_head(record: dict[str, str], digits: str, store: str) -> bytes:
     """The lines of an import's body before the archive. Raises Bad."""
     try:
         base = paths.base_name(record["StorePath"], store)
-        references = [paths.base_name(it, store) for it in record.get("References", "").split()]
+        references = [paths.base_name(path, store) for path in record.get("References", "").split()]
         deriver = record.get("Deriver", "unknown-deriver")
         named = [] if deriver in ("", "unknown-deriver") else [("deriver", paths.base_name(deriver, store))]
     except paths.Malformed as malformed:
@@ -88,7 +88,7 @@ def import_head(record: dict[str, str], digits: str, store: str) -> bytes:
     address = record.get("CA", "")
     if address and is_kept(address, base, references):
         named.append(("ca", address))
-    lines = [("path", base), ("nar-hash", record["NarHash"]), *(("reference", it) for it in references), *named]
+    lines = [("path", base), ("nar-hash", record["NarHash"]), *(("reference", target) for target in references), *named]
     return "".join(f"{key}: {value}\n" for key, value in lines).encode() + b"\n"
 
 

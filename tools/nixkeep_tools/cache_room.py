@@ -119,16 +119,17 @@ class Room:
 
     def used(self, held: list[Held]) -> collections.Counter:
         """The bytes of each user among these."""
-        found = collections.Counter()
-        for it in held:
-            found[it.user] += it.size
-        return found
+        sums = collections.Counter()
+        for entry in held:
+            sums[entry.user] += entry.size
+        return sums
 
     def grant(self) -> None:
         """Gives room to those that wait, as far as there is some."""
         used = self.used(self.held)
-        while found := [it for user in self.waiting for it in self.first(user) if self.is_within_share(it, used)]:
-            first = min(found, key=lambda it: used[it.user])
+        while fitting := [wanted for user in self.waiting for wanted in self.first(user)
+                          if self.is_within_share(wanted, used)]:
+            first = min(fitting, key=lambda wanted: used[wanted.user])
             if self.bytes and self.bytes + first.size > self.most:
                 return
             self.leave(first)
@@ -145,13 +146,13 @@ class Room:
 
     def evict(self, wanted):
         """Ends connections until there will be room for what is wanted, where that is just."""
-        while there := [it for it in self.held if not it.is_lost]:
+        while there := [held for held in self.held if not held.is_lost]:
             used = self.used(there)
             is_beyond = not self.is_within_share(wanted, used)
             if not is_beyond and used.total() + wanted.size <= self.most:
                 return
             # (only the user's own ones make room in the user's share)
-            lost = self.victim(wanted, [it for it in there if it.user == wanted.user] if is_beyond else there)
+            lost = self.victim(wanted, [held for held in there if held.user == wanted.user] if is_beyond else there)
             if not lost:
                 return
             lost.abort()
@@ -159,11 +160,11 @@ class Room:
     def victim(self, wanted, there):
         """The one of these that loses its room to another, or None."""
         late, used = asyncio.get_running_loop().time() - GRACE, self.used(there)
-        found = [it for it in there if it.began < late and not it.is_safe]
-        stuck = [it for it in found if it.since < late]
+        unsafe = [held for held in there if held.began < late and not held.is_safe]
+        stuck = [held for held in unsafe if held.since < late]
         if stuck:
-            return min(stuck, key=lambda it: it.since)
+            return min(stuck, key=lambda held: held.since)
         user = max(used, key=used.get)
-        slow = [it for it in found if it.user == user]
+        slow = [held for held in unsafe if held.user == user]
         is_just = used[user] > used[wanted.user] + wanted.size
-        return min(slow, key=lambda it: it.began) if slow and is_just else None
+        return min(slow, key=lambda held: held.began) if slow and is_just else None

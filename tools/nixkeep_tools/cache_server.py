@@ -105,6 +105,10 @@ class Port:
     def memory(self) -> None:
         """The bytes of memory that the server has: they aren't known."""
 
+    async def ended(self) -> None:
+        """Waits without an end: a server that starts again is another one's."""
+        await asyncio.get_running_loop().create_future()
+
     async def end(self) -> None:
         """Says that there will be no other connection."""
 
@@ -150,12 +154,12 @@ class Server:
 
     async def exchange(self, requests, first):
         came = asyncio.get_running_loop().time()
-        tries = 2 if all(REPEATED.fullmatch(f"{it.method} {it.target}") for it in requests) else 1
+        tries = 2 if all(REPEATED.fullmatch(f"{request.method} {request.target}") for request in requests) else 1
         async with self.turns.turn(requests[0].caller.user):
             while True:
                 await self.connect(came)
-                messages = [message(it) for it in (*first(), *requests)]
-                self.is_deleting = any(it.method == "POST" and it.target in DELETES for it in requests)
+                messages = [message(request) for request in (*first(), *requests)]
+                self.is_deleting = any(request.method == "POST" and request.target in DELETES for request in requests)
                 try:
                     async with asyncio.timeout(self.longest):
                         return await self.sent(messages)
@@ -178,23 +182,23 @@ class Server:
         clients get their turns in between."""
         for at in range(0, len(bases), TOGETHER):
             some = bases[at : at + TOGETHER]
-            for it in zip(some, await self.asks([Request(caller, "GET", f"{route}{base}") for base in some])):
-                yield it
+            for pair in zip(some, await self.asks([Request(caller, "GET", f"{route}{base}") for base in some])):
+                yield pair
 
     async def sent(self, messages: list[tuple[bytes, bytes]]) -> list[Reply]:
         for data in sendable(messages):
             self.writer.write(data)
             await self.writer.drain()
-        found, ends = [], False
+        replies, ends = [], False
         for _ in messages:
             reply, ends = await read_reply(self.reader)
             self.voided += reply.status >= FAILED
-            found.append(reply)
+            replies.append(reply)
         if ends:
             self.close()
         elif self.place.idle:
             self.closing = asyncio.get_running_loop().call_later(self.place.idle, self.close)
-        return found
+        return replies
 
     async def connect(self, came: float) -> None:
         """Opens the connection where it isn't open, for a request that came then. The time that it waited for its turn,

@@ -53,7 +53,7 @@ class Sessions:
         with open(file, "w", opener=lambda name, flags: os.open(name, flags, 0o600)):
             os.utime(file)
 
-    def asked(self, caller: Caller, base: str | None) -> None:
+    def remember(self, caller: Caller, base: str | None) -> None:
         """Remembers that a client asked for a path by HEAD: `base` is its name, or None if it isn't there."""
         if base is None:
             self.uploading[caller] = time.time()
@@ -65,16 +65,16 @@ class Sessions:
 
     def forget(self, caller: Caller) -> None:
         """Says that a user has ended the session."""
-        for it in [it for it in self.asked_at if it.user == caller.user]:
-            del self.asked_at[it]
+        for gone in [key for key in self.asked_at if key.user == caller.user]:
+            del self.asked_at[gone]
 
     def remembered(self):
         """What a deletion has to leave and no session keeps yet, each with its caller. The first ones are of all
         callers."""
         self.uploading = {caller: since for caller, since in self.uploading.items() if self.is_fresh(since)}
-        found = [(at, caller, base) for caller, asked in self.asked_at.items() if caller in self.uploading
-                 for at, (base, since) in enumerate(asked.items()) if self.is_fresh(since)]
-        return [(caller, base) for _, caller, base in sorted(found, key=lambda it: it[0])]
+        entries = [(at, caller, base) for caller, times in self.asked_at.items() if caller in self.uploading
+                   for at, (base, since) in enumerate(times.items()) if self.is_fresh(since)]
+        return [(caller, base) for _, caller, base in sorted(entries, key=lambda entry: entry[0])]
 
     def kept(self, keys: Iterable[tuple[Caller, str]]) -> None:
         for caller, base in keys:
@@ -91,12 +91,12 @@ class Sessions:
             if turns and len(last) > TOGETHER:
                 raise More
             del last[TOGETHER:]
-            return [self.keeping(*it) for it in last]
+            return [self.keeping(*key) for key in last]
 
         while True:
             keys = self.remembered()[:TOGETHER]
             if turns and len(keys) == TOGETHER:
-                await self.server.asks([self.keeping(*it) for it in keys])
+                await self.server.asks([self.keeping(*key) for key in keys])
                 self.kept(keys)
             else:
                 with contextlib.suppress(More):
@@ -107,7 +107,7 @@ class Sessions:
 
     async def expire(self) -> None:
         """Ends the sessions of users from whom nothing has come for a while."""
-        for user in [it.removesuffix(".session") for it in os.listdir(self.folder) if it.endswith(".session")]:
+        for user in [file.removesuffix(".session") for file in os.listdir(self.folder) if file.endswith(".session")]:
             if self.is_kept(user):
                 continue
             end = Request(Caller(user, None), "DELETE", target(user))

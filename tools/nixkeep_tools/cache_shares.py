@@ -42,8 +42,8 @@ class Shares:
             self.coming[user] -= size
 
     def bytes_of(self, base: str | None, user: str) -> int:
-        asked = "SELECT bytes FROM added WHERE base = ? AND user = ?"
-        return sum(size for (size,) in cache_lists.rows(self.conn, asked, (base, user)))
+        query = "SELECT bytes FROM added WHERE base = ? AND user = ?"
+        return sum(size for (size,) in cache_lists.rows(self.conn, query, (base, user)))
 
     def added(self, user: str, text: bytes, size: int) -> None:
         """Follows the reply to an add: a path. One that was there before stays that of its user."""
@@ -59,24 +59,24 @@ class Shares:
         self.drop([*bases_in(text)])
 
     def bases(self) -> list[str]:
-        return [it for (it,) in cache_lists.rows(self.conn, "SELECT base FROM added")] if self.conn else []
+        return [base for (base,) in cache_lists.rows(self.conn, "SELECT base FROM added")] if self.conn else []
 
     def blobs(self) -> set[str]:
         """The names of the blobs that are counted."""
-        return {it for it in self.bases() if cache_records.DIGEST.fullmatch(it)}
+        return {base for base in self.bases() if cache_records.DIGEST.fullmatch(base)}
 
     def listed(self, bases: Iterable[str]) -> None:
         """Follows a listing of all paths: what was deleted elsewhere counts no more."""
         there = set(bases) if self.conn else ()
-        self.drop([it for it in self.bases() if it not in there and not cache_records.DIGEST.fullmatch(it)])
+        self.drop([base for base in self.bases() if base not in there and not cache_records.DIGEST.fullmatch(base)])
 
     def drop(self, bases: Collection[str]) -> None:
         """Counts these no more. What can't be written is counted until the next listing or sweep."""
         if not (self.conn and bases):
             return
-        bases, asked = {*bases}, "SELECT user, bytes FROM added WHERE base = ?"
+        bases, query = {*bases}, "SELECT user, bytes FROM added WHERE base = ?"
         # (a list may be long, and a deletion of one path takes one row of it)
-        gone = [row for it in bases for row in cache_lists.rows(self.conn, asked, (it,))]
-        if cache_lists.delete(self.conn, "DELETE FROM added WHERE base = ?", [(it,) for it in bases]):
+        gone = [row for base in bases for row in cache_lists.rows(self.conn, query, (base,))]
+        if cache_lists.delete(self.conn, "DELETE FROM added WHERE base = ?", [(base,) for base in bases]):
             for user, size in gone:
                 self.used[user] -= size

@@ -85,14 +85,14 @@ def read_key(file):
 
 def trusted_keys(text):
     """The public keys in a text, by their names; blanks separate them, as in Nix's own setting. Raises BadKey."""
-    found = {}
+    keys = {}
     for word in text.split():
         needs_library()
         key = read_form(word)
         if not key or len(key[1]) != PUBLIC:
             raise BadKey(f"{word[:200]}: it isn't a public key: NAME:BASE64 of {PUBLIC} bytes is meant")
-        found[key[0]] = signing.VerifyKey(key[1])
-    return found
+        keys[key[0]] = signing.VerifyKey(key[1])
+    return keys
 
 
 def credential(name: str) -> str | None:
@@ -112,7 +112,7 @@ def trusted_text(said):
 
 def fingerprint(record, store):
     """What is signed of a record, whose references may be base names."""
-    references = sorted(paths.full(it.rpartition("/")[2], store) for it in record.get("References", "").split())
+    references = sorted(paths.full(path.rpartition("/")[2], store) for path in record.get("References", "").split())
     parts = "1", record["StorePath"], record["NarHash"], record.get("NarSize", ""), ",".join(references)
     return ";".join(parts).encode()
 
@@ -138,10 +138,10 @@ class Signing:
         kept = [self.key.sign(message)] if self.key else []
         if self.conn:
             base, digest = record["StorePath"].rpartition("/")[2], paths.sha256([message])
-            asked = "SELECT text FROM signature WHERE base = ? AND digest = ?"
-            rows = cache_lists.rows(self.conn, asked, (base, digest))
-            kept += [it for (it,) in rows if it not in kept and it.partition(":")[0] in self.trusted]
-        return text + "".join(f"Sig: {it}\n" for it in kept).encode()
+            query = "SELECT text FROM signature WHERE base = ? AND digest = ?"
+            rows = cache_lists.rows(self.conn, query, (base, digest))
+            kept += [sig for (sig,) in rows if sig not in kept and sig.partition(":")[0] in self.trusted]
+        return text + "".join(f"Sig: {sig}\n" for sig in kept).encode()
 
     def uploaded(self, text: bytes) -> None:
         """Follows an upload: keeps the signatures of its record that are of trusted keys. Its archive has been tested
@@ -150,16 +150,16 @@ class Signing:
             return
         record = cache_records.fields(text)
         message, by_name = fingerprint(record, self.store), {}
-        for it in SIGNATURE.findall(text.decode("ascii")):
-            by_name.setdefault(it.partition(":")[0], []).append(it)
+        for sig in SIGNATURE.findall(text.decode("ascii")):
+            by_name.setdefault(sig.partition(":")[0], []).append(sig)
         row = record["StorePath"].rpartition("/")[2], paths.sha256([message])
         for name in self.trusted.keys() & by_name.keys():
-            for it in by_name[name][:TESTED]:
-                if self.is_good(name, message, it):
+            for sig in by_name[name][:TESTED]:
+                if self.is_good(name, message, sig):
                     # (in the one form of its bytes, or it could be kept sixteen times)
-                    kept = written(*read_form(it))
+                    normal = written(*read_form(sig))
                     statement = "INSERT OR IGNORE INTO signature VALUES (?, ?, ?)"
-                    self.changes += cache_lists.add(self.conn, statement, (*row, kept))
+                    self.changes += cache_lists.add(self.conn, statement, (*row, normal))
 
     def is_good(self, name: str, message: bytes, text: str) -> bool:
         form = read_form(text)
@@ -177,10 +177,10 @@ class Signing:
         """Follows a listing of all paths: what was deleted elsewhere has no signature."""
         if self.conn:
             there, rows = {*bases}, cache_lists.rows(self.conn, "SELECT DISTINCT base FROM signature")
-            self.drop([it for (it,) in rows if it not in there])
+            self.drop([base for (base,) in rows if base not in there])
 
     def drop(self, bases: Iterable[str]) -> None:
-        rows = [(it,) for it in bases]
+        rows = [(base,) for base in bases]
         self.changes += bool(rows)
         cache_lists.delete(self.conn, "DELETE FROM signature WHERE base = ?", rows)
 

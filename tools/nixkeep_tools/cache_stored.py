@@ -17,8 +17,8 @@ class Stored:
     def __init__(self, folder: str):
         self.folder, self.bases = folder, {}
         os.makedirs(folder, mode=0o700, exist_ok=True)
-        names = [it for it in os.listdir(folder) if cache_records.FILE.fullmatch(it)]
-        for name in sorted(names, key=lambda it: os.lstat(f"{folder}/{it}").st_mtime):
+        names = [name for name in os.listdir(folder) if cache_records.FILE.fullmatch(name)]
+        for name in sorted(names, key=lambda file: os.lstat(f"{folder}/{file}").st_mtime):
             self.bases[name] = os.readlink(f"{folder}/{name}")
 
     def base(self, name: str) -> str | None:

@@ -82,13 +82,13 @@ class Sweep:
         counted, gone = self.shares.blobs(), set()
         there = await self.blobs.answered(lambda: [*self.blobs.place.list()])
         listed = await self.pointers.listed(caller)
-        named = {paths.base32(it.nar_hash) for it in (await self.pointers.among(caller, listed)).values()}
+        named = {paths.base32(pointer.nar_hash) for pointer in (await self.pointers.among(caller, listed)).values()}
         asides = self.asides()
-        left = [it for it in there if it.since < before and it.name not in named and not asides]
+        left = [blob for blob in there if blob.since < before and blob.name not in named and not asides]
         known = {*listed}
-        for it in asides:
+        for aside in asides:
             failed += 1
-            yield f"failed {it}: a restore has left this folder, which may name any blob: delete it first"
+            yield f"failed {aside}: a restore has left this folder, which may name any blob: delete it first"
         for blob in left:
             try:
                 if is_dry or await self.delete(caller, blob, before, known):
@@ -102,10 +102,10 @@ class Sweep:
                     break
         if not is_dry:
             # (what an object names counts as that object)
-            self.shares.drop([*(counted - ({it.name for it in there} - named - gone))])
+            self.shares.drop([*(counted - ({blob.name for blob in there} - named - gone))])
             self.blobs.forget(time.time() - self.grace)
         if not (is_dry or failed):
-            self.ended(len(there) - count, sum(it.size for it in there) - size)
+            self.ended(len(there) - count, sum(blob.size for blob in there) - size)
         yield f"swept {count_of(count, 'blob')} {count_of(size, 'byte')}, kept {len(there) - count}"
 
     def asides(self) -> list[str]:
@@ -133,9 +133,9 @@ class Sweep:
 
     async def is_named(self, caller: Caller, name: str, listed: set[str]) -> bool:
         """Whether an object names a blob that wasn't there when objects were listed."""
-        fresh = [it for it in await self.pointers.listed(caller) if it not in listed]
+        fresh = [base for base in await self.pointers.listed(caller) if base not in listed]
         named = await self.pointers.among(caller, fresh)
-        return any(paths.base32(it.nar_hash) == name for it in named.values())
+        return any(paths.base32(pointer.nar_hash) == name for pointer in named.values())
 
 
 def read(file):

@@ -14,7 +14,7 @@ class Turns:
 
     def waiting(self) -> int:
         """The number of those that wait."""
-        return sum(not it.done() for waiters in self.groups.values() for it in waiters)
+        return sum(not waiter.done() for waiters in self.groups.values() for waiter in waiters)
 
     @contextlib.asynccontextmanager
     async def turn(self, key: str) -> AsyncIterator[None]:

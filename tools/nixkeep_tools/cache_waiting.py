@@ -35,8 +35,8 @@ class Waiting:
             name, _, owner = entry.partition("@")
             is_file = cache_records.FILE.fullmatch(name)
             if is_file and paths.is_plain_name(owner) and name not in self.files:
-                found = os.stat(f"{folder}/{entry}")
-                self.files[name] = File(found.st_size, found.st_mtime, owner, False)
+                status = os.stat(f"{folder}/{entry}")
+                self.files[name] = File(status.st_size, status.st_mtime, owner, False)
             elif is_file or entry.endswith(".part"):
                 os.unlink(f"{folder}/{entry}")
         self.expire()
@@ -60,9 +60,9 @@ class Waiting:
     def make_room(self, most: int, most_bytes: int, files: list[tuple[str, File]]) -> bool:
         """Deletes used files among these, the oldest first, until they are `most`, of `most_bytes` bytes. Returns
         whether they are no more then."""
-        count, size = len(files), sum(it.bytes for _, it in files)
+        count, size = len(files), sum(file.bytes for _, file in files)
         is_over = lambda: count > most or size > most_bytes
-        for name, file in sorted(files, key=lambda it: it[1].since):
+        for name, file in sorted(files, key=lambda pair: pair[1].since):
             if not is_over():
                 break
             if file.is_used:
@@ -81,9 +81,9 @@ class Waiting:
 
     def share(self, owner: str) -> tuple[int, int, list[tuple[str, File]]]:
         """How many files of how many bytes a user may have, and those that are the user's."""
-        others = [it for it in self.files.values() if it.owner != owner and not it.is_used]
-        count, size = self.count - len(others), self.size - sum(it.bytes for it in others)
-        return count // 2, size // 2, [it for it in self.files.items() if it[1].owner == owner]
+        others = [file for file in self.files.values() if file.owner != owner and not file.is_used]
+        count, size = self.count - len(others), self.size - sum(file.bytes for file in others)
+        return count // 2, size // 2, [pair for pair in self.files.items() if pair[1].owner == owner]
 
     async def take(self, owner: str, name: str, length: int, pieces: AsyncIterable[bytes]) -> None:
         """Writes a file as it comes, and keeps it if it is the one that its name says. Raises Full, or Bad."""

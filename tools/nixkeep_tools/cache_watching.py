@@ -54,5 +54,5 @@ class Watching:
             self.saw(Seen(request, answer, route_of(request.raw_path), status, received, sent, seconds))
 
     def saw(self, seen: Seen) -> None:
-        for it in self.observers:
-            it(seen)
+        for observe in self.observers:
+            observe(seen)

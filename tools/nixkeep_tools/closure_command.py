@@ -95,7 +95,7 @@ def _is_full(text):
 
 def tops_of(words):
     """The store directory and the base names, each once."""
-    given = [top_path(it, None) for it in words]
+    given = [top_path(word, None) for word in words]
     folders = {folder for folder, _ in given if folder} or {paths.STORE}
     if len(folders) > 1:
         raise Stop(f"refused: 14 bad-store-path: {' and '.join(sorted(folders))} are two store directories", REFUSED)
@@ -132,12 +132,12 @@ class Stores:
         return self.kept(objects.Store(server, me, self.folder, child))
 
     def of_server(self, url):
-        place, of = Place(url), lambda name, variable: getattr(self.words, name) or os.environ.get(variable)
+        place, setting = Place(url), lambda name, variable: getattr(self.words, name) or os.environ.get(variable)
         self.first_place = self.first_place or place
         is_first = place.is_same(self.first_place)
-        login = credentials.of_place(place, of("credentials", "NIXKEEP_CREDENTIALS_FILE"), is_first)
-        me = self.user or of("me", "NIXKEEP_USER") or credentials.user_of(login)
-        server = Server(place, self.caller(), login, of("ca", "NIXKEEP_CA"))
+        login = credentials.of_place(place, setting("credentials", "NIXKEEP_CREDENTIALS_FILE"), is_first)
+        me = self.user or setting("me", "NIXKEEP_USER") or credentials.user_of(login)
+        server = Server(place, self.caller(), login, setting("ca", "NIXKEEP_CA"))
         return self.kept(objects.Store(server, me, self.folder))
 
     def first(self) -> objects.Store:
@@ -159,8 +159,8 @@ class Stores:
         return store
 
     def close(self) -> None:
-        for it in self.open:
-            it.close()
+        for store in self.open:
+            store.close()
 
 
 def ends(stores, action):
@@ -173,7 +173,7 @@ def ends(stores, action):
 def root_of(words):
     """The kind and the name of the root that the words ask for, or None."""
     named = [(kind, getattr(words, kind, None)) for kind in ("root", "permanent", "profile")]
-    kind, name = next((it for it in named if it[1] is not None), (None, None))
+    kind, name = next((pair for pair in named if pair[1] is not None), (None, None))
     if kind and words.action != "pull" and not paths.is_plain_name(name):
         raise Stop("refused: 34 bad-root-name", REFUSED)
     return kind and (kind, name)
@@ -206,7 +206,7 @@ def main(words: list[str]) -> int:
     given = top.parse_args(words[1:])
     if given.session is not None and not 1 <= given.session <= 4_194_304:
         top.error("--session wants a number of 1 to 4,194,304")
-    if len(given.paths) > 1 and any(getattr(given, it, None) for it in ("root", "permanent", "profile")):
+    if len(given.paths) > 1 and any(getattr(given, option, None) for option in ("root", "permanent", "profile")):
         top.error("a root or a profile is set on one PATH")
     try:
         transfer(given, transferred)

@@ -41,19 +41,20 @@ def references_first(records: dict[str, objects.Record]) -> list[str]:
             elif base not in seen:
                 seen.add(base)
                 left.append((base, True))
-                left += [(it, False) for it in records[base].refs if it in records and it not in seen]
+                left += [(to, False) for to in records[base].refs if to in records and to not in seen]
     return order
 
 
-def reached(records: dict[str, objects.Record], base: str) -> set[str]:
-    """The closure of a path, as a set."""
-    seen, left = set(), [base]
+def reached(records: dict[str, objects.Record], base: str, seen: set[str]) -> set[str]:
+    """The closure of a path without what was seen before, as a set, which is seen now."""
+    new, left = set(), [base]
     while left:
         at = left.pop()
         if at not in seen:
             seen.add(at)
+            new.add(at)
             left += records[at].refs
-    return seen
+    return new
 
 
 def is_large(record: objects.Record) -> bool:
@@ -79,7 +80,7 @@ class Transfer:
         self.target.check_folder()
         self.source.check_folder()
         records = self.source.closure(self.tops)
-        self.records = {base: objects.with_address(it, self.target.folder) for base, it in records.items()}
+        self.records = {base: objects.with_address(record, self.target.folder) for base, record in records.items()}
         self.refuse_large()
         self.refuse_pointers()
         there = self.held(self.target.valid(self.records))
@@ -88,20 +89,20 @@ class Transfer:
         self.refuse_full()
 
     def refuse_large(self):
-        large = [it for it in self.records.values() if is_large(it)]
+        large = [record for record in self.records.values() if is_large(record)]
         large = [] if large and self.target.takes_large() else large
-        many = [it for it in self.records.values() if len(it.refs) > MOST_REFERENCES]
-        lines = [f"refused: 8 too-large {self.source.full(it.base)} {it.nar_size} bytes" for it in large]
-        lines += [f"refused: 33 too-many-references {self.source.full(it.base)}" for it in many]
+        many = [record for record in self.records.values() if len(record.refs) > MOST_REFERENCES]
+        lines = [f"refused: 8 too-large {self.source.full(record.base)} {record.nar_size} bytes" for record in large]
+        lines += [f"refused: 33 too-many-references {self.source.full(record.base)}" for record in many]
         if lines:
             raise Refused("\n".join(lines), REFUSED)
 
     def refuse_pointers(self):
         """Raises Refused for what stands for a large archive in a store, and isn't one: nixkeep-cache has that."""
         lines = []
-        for it in self.records.values():
-            if pointers.may_be(it.nar_size, it.ca):
-                pointer = pointers.read(self.archive(it), self.source.full(it.base))
+        for record in self.records.values():
+            if pointers.may_be(record.nar_size, record.ca):
+                pointer = pointers.read(self.archive(record), self.source.full(record.base))
                 lines += [f"failed: pointer {pointer.path}: its archive of {pointer.nar_size} bytes is in the blobs of "
                           f"this store's nixkeep-cache: transfer it from there"] if pointer else []
         if lines:
@@ -112,21 +113,24 @@ class Transfer:
 
         A path that is kept keeps what it refers to. `is_careful` keeps each path by itself all the same.
         """
-        held = set()
+        held, seen = set(), set()
         for base in reversed(references_first(self.records)):
             if base in there and (is_careful or base not in held) and self.target.keep(base):
-                held |= {base} if is_careful else reached(self.records, base) & there
+                held |= {base} if is_careful else reached(self.records, base, seen) & there
         return held
 
     def refuse_untrusted(self):
         """Raises Refused if an object without a content address is missing, and the caller isn't trusted."""
-        left = [self.records[it] for it in self.missing if not self.records[it].ca or is_large(self.records[it])]
+        left = [self.records[base] for base in self.missing
+                if not self.records[base].ca or is_large(self.records[base])]
         if not left or not isinstance(self.target, objects.Store) or self.target.is_trusted():
             return
         folder = self.target.folder
-        unproved = [it for it in left if is_large(it) or not objects.text_address(it, self.archive(it), folder)]
+        unproved = [record for record in left
+                    if is_large(record) or not objects.text_address(record, self.archive(record), folder)]
         if unproved:
-            raise Refused("\n".join(f"denied: trusted-import {self.target.full(it.base)}" for it in unproved), DENIED)
+            raise Refused("\n".join(f"denied: trusted-import {self.target.full(record.base)}" for record in unproved),
+                          DENIED)
 
     def refuse_full(self):
         """Raises Refused where what is missing has no room on the disk of the target."""
@@ -137,7 +141,7 @@ class Transfer:
 
     def size(self) -> int:
         """The bytes of the archives that are missing."""
-        return sum(self.records[it].nar_size for it in self.missing)
+        return sum(self.records[base].nar_size for base in self.missing)
 
     def archive(self, record: objects.Record) -> bytes:
         """The archive of an object, tested by its record."""
@@ -168,7 +172,7 @@ class Transfer:
     def send(self) -> Done:
         """Sends what is missing, and returns what was done."""
         self.is_sending, total = True, self.size()
-        there, progress = len(self.records) - len(self.missing), Progress(self.what, total, len(self.missing))
+        count, progress = len(self.records) - len(self.missing), Progress(self.what, total, len(self.missing))
         try:
             for base in self.missing:
                 self.put(self.records[base])
@@ -176,7 +180,7 @@ class Transfer:
                 progress.add(self.records[base].nar_size, 1)
         finally:
             progress.end()
-        return Done(self.done, total, there)
+        return Done(self.done, total, count)
 
     def put(self, record: objects.Record) -> None:
         for _ in range(3):
@@ -195,7 +199,7 @@ class Transfer:
         That is needed if an object in the target has other references than the same path in the source, so that it
         doesn't keep these.
         """
-        needed = reached(self.records, record.base) - {record.base}
+        needed = reached(self.records, record.base, set()) - {record.base}
         there = self.held(self.target.valid(needed), is_careful=True)
         for base in references_first(self.records):
             if base in needed and base not in there:
@@ -214,17 +218,17 @@ class Transfer:
 
     def plan(self) -> str:
         """The bytes and the path of each object that is missing, a line each."""
-        return "".join(f"{self.records[it].nar_size:>10} {self.target.full(it)}\n" for it in self.missing)
+        return "".join(f"{self.records[base].nar_size:>10} {self.target.full(base)}\n" for base in self.missing)
 
     def stopped(self) -> str:
         """The line that is printed of a transfer that was broken off."""
-        kept = [it for it in (self.source, self.target) if isinstance(it, objects.Store)]
-        lines = [f"session {it.session} of {it.me} at {it} keeps what is there" for it in kept]
+        kept = [store for store in (self.source, self.target) if isinstance(store, objects.Store)]
+        lines = [f"session {store.session} of {store.me} at {store} keeps what is there" for store in kept]
         return "; ".join(
             [f"{self.done} of {len(self.missing)} objects were sent, and the same command goes on there", *lines]
         )
 
 
 def summary(what: str, done: Done) -> str:
-    there = f"{done.there} {'was' if done.there == 1 else 'were'} there"
-    return f"{what} {count_of(done.sent, 'object')}, {count_of(done.bytes, 'byte')}; {there}\n"
+    phrase = f"{done.there} {'was' if done.there == 1 else 'were'} there"
+    return f"{what} {count_of(done.sent, 'object')}, {count_of(done.bytes, 'byte')}; {phrase}\n"

@@ -51,9 +51,9 @@ class Command:
                  has_version: bool = False):
         self.name, self.about, self.arguments = name, about, arguments
         self.requests = ("help", "version") if has_version else ("help",)
-        self.commands = {it.name: it for it in commands}
-        self.options = {it.name: it for it in arguments if it.kind not in POSITIONAL}
-        self.positional = [it for it in arguments if it.kind in POSITIONAL]
+        self.commands = {command.name: command for command in commands}
+        self.options = {argument.name: argument for argument in arguments if argument.kind not in POSITIONAL}
+        self.positional = [argument for argument in arguments if argument.kind in POSITIONAL]
 
 
 def flag(name: str, text: str) -> Argument:
@@ -90,13 +90,14 @@ def usage(command, title, used=None):
     if used is None:
         words = ["[OPTIONS]"] * bool(command.options) + ["[COMMAND]"] * bool(command.commands)
     else:
-        words = [shown(it) for it in command.options.values() if it.name in used]
-        words += [f"--{it}" for it in command.requests if it in used]
+        words = [shown(argument) for argument in command.options.values() if argument.name in used]
+        words += [f"--{name}" for name in command.requests if name in used]
     return " ".join(["Usage:", title, *words, *map(shown, command.positional)])
 
 
 def fault(text, line=None, tip=None):
-    return Printed("".join(f"{it}\n\n" for it in (f"error: {text}", tip and f"  tip: {tip}", line) if it) + f"{MORE}\n")
+    return Printed("".join(f"{part}\n\n" for part in (f"error: {text}", tip and f"  tip: {tip}", line) if part)
+                   + f"{MORE}\n")
 
 
 def columns(rows):
@@ -105,14 +106,14 @@ def columns(rows):
 
 
 def help_text(command, title):
-    options = [(f"    {shown(it)}", it.about) for it in command.options.values()]
+    options = [(f"    {shown(argument)}", argument.about) for argument in command.options.values()]
     parts = [f"{command.about}\n\n{usage(command, title)}\n"]
     if command.commands:
-        rows = [(it.name, it.about) for it in command.commands.values()]
+        rows = [(subcommand.name, subcommand.about) for subcommand in command.commands.values()]
         parts.append(f"Commands:\n{columns([*rows, ('help', HELP)])}")
     if command.positional:
-        parts.append(f"Arguments:\n{columns([(shown(it), it.about) for it in command.positional])}")
-    requests = [(f"{SHORT[it]}, --{it}", f"Print {it}") for it in command.requests]
+        parts.append(f"Arguments:\n{columns([(shown(argument), argument.about) for argument in command.positional])}")
+    requests = [(f"{SHORT[name]}, --{name}", f"Print {name}") for name in command.requests]
     parts.append(f"Options:\n{columns([*options, *requests])}")
     return Printed("\n".join(parts), 0)
 
@@ -193,7 +194,7 @@ class Reader:
             self.waiting = option
 
     def short(self, word):
-        requests = [it for it in self.command.requests if word.startswith(SHORT[it])]
+        requests = [name for name in self.command.requests if word.startswith(SHORT[name])]
         if not requests:
             raise self.unknown(word[:2], None)
         if self.waiting:
@@ -245,16 +246,16 @@ class Reader:
     def place(self) -> None:
         """Gives the values without an option to their arguments."""
         given, missing = [*self.given], []
-        for it in self.command.positional:
-            if it.kind in ("any", "some"):
-                self.values[it.name] = [*given]
-                missing += [it] * (it.kind == "some" and not given)
+        for argument in self.command.positional:
+            if argument.kind in ("any", "some"):
+                self.values[argument.name] = [*given]
+                missing += [argument] * (argument.kind == "some" and not given)
             elif given:
-                self.values[it.name] = given.pop(0)
+                self.values[argument.name] = given.pop(0)
             else:
-                missing += [it] * (it.kind == "required")
+                missing += [argument] * (argument.kind == "required")
         if missing:
-            names = "".join(f"\n  {shown(it)}" for it in missing)
+            names = "".join(f"\n  {shown(argument)}" for argument in missing)
             line = usage(self.command, self.title, {*self.values})
             raise fault(f"the following required arguments were not provided:{names}", line)
 

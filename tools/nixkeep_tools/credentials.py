@@ -70,7 +70,7 @@ def login_name():
     """The login name, or None. (As `getpass` finds it, which takes longer to load than a request.)"""
     import pwd
 
-    named = (os.environ.get(it) for it in ("LOGNAME", "USER", "LNAME", "USERNAME"))
+    named = (os.environ.get(variable) for variable in ("LOGNAME", "USER", "LNAME", "USERNAME"))
     try:
         return next(filter(None, named), None) or pwd.getpwuid(os.getuid()).pw_name
     except KeyError:

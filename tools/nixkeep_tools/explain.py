@@ -58,7 +58,7 @@ def settings(path):
 
 def printable(text):
     """A text with each character that isn't printable as an escape: names in a file may come from anybody."""
-    return "".join(it if it.isprintable() else ascii(it)[1:-1] for it in text)
+    return "".join(char if char.isprintable() else ascii(char)[1:-1] for char in text)
 
 
 def say(line, file=None):
@@ -69,8 +69,8 @@ def print_verdict(file, examined, config):
     """Prints what nixkeep answers and each fault; returns the status."""
     refusal = examined.refusal(config.store_dir)
     say(f"{file}: refused: {refusal}" if refusal else f"{file}: {examined.description()}")
-    for it in examined.faults:
-        say(f"  {shown(it.table, it.row)}: {it.rule}")
+    for fault in examined.faults:
+        say(f"  {shown(fault.table, fault.row)}: {fault.rule}")
     if examined.names and not examined.are_rows_tested:
         say("  no row is tested, since the tables are not those of one schema")
     if log := explain_log.line(file)[0]:
@@ -152,9 +152,9 @@ def explain(words):
         return explain_the_log(words.file)
     config = settings(words.config)
     reasons = explain_file.of_path(words.file)
-    for it in reasons:
-        say(f"{words.file}: refused: {BAD_SCHEMA}: {it.text}")
-    if not all(it.is_readable for it in reasons):
+    for reason in reasons:
+        say(f"{words.file}: refused: {BAD_SCHEMA}: {reason.text}")
+    if not all(reason.is_readable for reason in reasons):
         return REFUSED
     if not os.path.exists(words.file):
         raise Stopped(f"{words.file}: failed: there is no such file; nixkeep would make a store there", FAILED)
@@ -173,10 +173,10 @@ def explain(words):
 
 def main(arguments: list[str]) -> int:
     words = parser().parse_args(arguments)
-    for it in (sys.stdout, sys.stderr):
-        if hasattr(it, "reconfigure"):
+    for stream in (sys.stdout, sys.stderr):
+        if hasattr(stream, "reconfigure"):
             # (the terminal's encoding may not have a character)
-            it.reconfigure(errors="backslashreplace")
+            stream.reconfigure(errors="backslashreplace")
     try:
         status = explain(words)
         sys.stdout.flush()

@@ -121,7 +121,8 @@ def of_locks(path: str, what: str) -> list[Reason]:
         pid = store_file.locker(file)
     if pid is None:
         return []
-    holders = [it for it in {*locking(path), *([pid] if pid else [])} if is_running(it)] or having_open(path)
+    holders = [holder for holder in {*locking(path), *([pid] if pid else [])}
+               if is_running(holder)] or having_open(path)
     named = ", ".join(map(described, sorted(holders))) or "a process that this user can't see"
     return [Reason(f"{what} is locked by {named}", True)]
 
@@ -145,7 +146,7 @@ def locking(path):
 def having_open(path):
     """The processes that have the file open: a lock of an open file belongs to no process by itself."""
     seen, pids = os.stat(path), set()
-    for pid in (int(it) for it in os.listdir("/proc") if it.isdigit()):
+    for pid in (int(name) for name in os.listdir("/proc") if name.isdigit()):
         with contextlib.suppress(OSError):
             for name in os.listdir(f"/proc/{pid}/fd"):
                 with contextlib.suppress(OSError):

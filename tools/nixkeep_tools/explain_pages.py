@@ -88,7 +88,7 @@ def table_of(name, tables):
 def key_of(conn, table, rowid):
     """The key of a row by its number, if it can be read."""
     columns, key = FORMS[table]
-    names = ", ".join(it.split()[0] for it in columns[:key])
+    names = ", ".join(column.split()[0] for column in columns[:key])
     try:
         return conn.execute(f"SELECT {names} FROM {table} NOT INDEXED WHERE rowid = ?", (rowid,)).fetchone()
     except DAMAGED:
@@ -102,7 +102,7 @@ def page_faults(conn, entries):
     except DAMAGED as error:
         yield Fault(THE_FILE, None, f"SQLite can't check its pages: {error}")
         return
-    tables, pages = {it.name: it.table for it in entries}, None
+    tables, pages = {entry.name: entry.table for entry in entries}, None
     for line in lines:
         if line == "ok" or line.startswith("*** in database"):
             continue
@@ -122,9 +122,9 @@ def page_faults(conn, entries):
 
 def key_faults(conn, entries):
     """The Faults of rows that refer by a foreign key to none."""
-    for it in (it for it in entries if it.type == "table" and not it.name.startswith("sqlite_")):
+    for listed in (entry for entry in entries if entry.type == "table" and not entry.name.startswith("sqlite_")):
         # (SQLite doesn't check a key to columns that are no key themselves)
-        rows, _ = scanned(conn, f"PRAGMA foreign_key_check({quoted(it.name)})")
+        rows, _ = scanned(conn, f"PRAGMA foreign_key_check({quoted(listed.name)})")
         for table, rowid, to, _ in rows:
             yield Fault(table, None if rowid is None else (rowid,), f"a foreign key to {to} finds no row there")
 
@@ -135,17 +135,17 @@ def check_faults(conn, entries):
     nixkeep tests the tables that it could write.
     """
     untested = frozen(conn, entries) | set(FORMS)
-    for it in entries:
-        if it.type == "table" and "CHECK" in words_of(it.text) and lower(it.name) not in untested:
+    for entry in entries:
+        if entry.type == "table" and "CHECK" in words_of(entry.text) and lower(entry.name) not in untested:
             with contextlib.closing(sqlite3.connect(":memory:")) as alone, contextlib.suppress(*DAMAGED):
-                yield from broken_checks(conn, it, alone)
+                yield from broken_checks(conn, entry, alone)
 
 
 def broken_checks(conn, entry, alone):
     """The Faults of one table, whose rows are put one by one into a table of the same text in another database."""
     alone.execute(entry.text)
     columns = alone.execute("SELECT name, hidden FROM pragma_table_xinfo(?)", (entry.name,)).fetchall()
-    names, marks = ", ".join(quoted(it) for it, _ in columns), ", ".join("?" * len(columns))
+    names, marks = ", ".join(quoted(name) for name, _ in columns), ", ".join("?" * len(columns))
     if any(hidden for _, hidden in columns):
         return
     for row in conn.execute(f"SELECT {names} FROM {quoted(entry.name)}"):
@@ -159,23 +159,24 @@ def broken_checks(conn, entry, alone):
 
 def frozen(conn, entries):
     """The tables that nixkeep can't write, since they have a trigger or an index with a WHERE or an expression."""
-    tables = {lower(it.table) for it in entries if it.type == "trigger"}
-    return tables | {lower(it.name) for it in entries if it.type == "table" and has_hidden_index(conn, it.name)}
+    tables = {lower(entry.table) for entry in entries if entry.type == "trigger"}
+    return tables | {lower(entry.name) for entry in entries
+                     if entry.type == "table" and has_hidden_index(conn, entry.name)}
 
 
 def faults_of_others(conn, entries):
     """What of other programs keeps nixkeep from the whole file, whatever the store's tables are."""
-    kinds = {lower(it.name): it.type for it in entries if it.type in ("table", "view")}
+    kinds = {lower(entry.name): entry.type for entry in entries if entry.type in ("table", "view")}
     unwritten = frozen(conn, entries) - set(FORMS)
-    for it in entries:
-        if it.type == "table" and "VIRTUAL" in words_of(it.text)[:2]:
-            yield Fault(it.name, None, "a virtual table, which nixkeep doesn't know")
-        if it.type == "trigger" and kinds.get(lower(it.table)) == "view":
-            yield Fault(it.table, None, f"the trigger {it.name} is on a view")
-        if it.type == "trigger" and lower(it.name) in kinds:
-            yield Fault(it.table, None, f"the trigger {it.name} has the name of a table or a view")
-        if it.type == "table" and lower(it.name) in unwritten and "references" in lower(it.text):
-            yield Fault(it.name, None, f"the table has the word REFERENCES, and {HIDDEN}")
+    for entry in entries:
+        if entry.type == "table" and "VIRTUAL" in words_of(entry.text)[:2]:
+            yield Fault(entry.name, None, "a virtual table, which nixkeep doesn't know")
+        if entry.type == "trigger" and kinds.get(lower(entry.table)) == "view":
+            yield Fault(entry.table, None, f"the trigger {entry.name} is on a view")
+        if entry.type == "trigger" and lower(entry.name) in kinds:
+            yield Fault(entry.table, None, f"the trigger {entry.name} has the name of a table or a view")
+        if entry.type == "table" and lower(entry.name) in unwritten and "references" in lower(entry.text):
+            yield Fault(entry.name, None, f"the table has the word REFERENCES, and {HIDDEN}")
     for name, to, columns in foreign_keys(conn, entries):
         if to in unwritten and lower(name) not in unwritten and has_reference(conn, name, columns):
             yield Fault(name, None, f"a row refers to {to}, which has {HIDDEN}")
@@ -183,7 +184,7 @@ def faults_of_others(conn, entries):
 
 def has_reference(conn, table, columns):
     """Whether a row of a table refers to one by these columns: none of them is NULL."""
-    values = " AND ".join(f"{quoted(it)} IS NOT NULL" for it in columns)
+    values = " AND ".join(f"{quoted(column)} IS NOT NULL" for column in columns)
     return conn.execute(f"SELECT EXISTS (SELECT 1 FROM {quoted(table)} WHERE {values})").fetchone()[0]
 
 

@@ -48,11 +48,11 @@ fi
 def bad_objects(objects, faults, partial):
     """Why an object isn't sound by itself, by path."""
     rules = {}
-    for it in faults:
-        if it.table in ("object", "piece", "refs") and it.row and it.row[0] in objects.objects:
+    for fault in faults:
+        if fault.table in ("object", "piece", "refs") and fault.row and fault.row[0] in objects.objects:
             # (if the content address is right, the archive is the object's, and the digest alone is wrong)
-            if it.rule != HASH or not objects.is_proved(it.row[0]):
-                rules.setdefault(it.row[0], it.rule)
+            if fault.rule != HASH or not objects.is_proved(fault.row[0]):
+                rules.setdefault(fault.row[0], fault.rule)
     for base in objects.objects.keys() - objects.checked.keys():
         rules.setdefault(base, "its archive can't be read")
     for base in objects.checked if "refs" in partial else ():
@@ -66,19 +66,19 @@ def in_order(objects, bad):
     left_out, waiting = dict(bad), {}
     referrers, ready, ordered = collections.defaultdict(list), [], []
     for base in objects.checked.keys() - bad.keys():
-        waiting[base] = {it for it in objects.references[base] if it != base}
-        for it in waiting[base]:
-            referrers[it].append(base)
+        waiting[base] = {target for target in objects.references[base] if target != base}
+        for other in waiting[base]:
+            referrers[other].append(base)
         if not waiting[base]:
             ready.append(base)
     heapq.heapify(ready)
     while ready:
         base = heapq.heappop(ready)
         ordered.append(base)
-        for it in referrers[base]:
-            waiting[it].discard(base)
-            if not waiting[it]:
-                heapq.heappush(ready, it)
+        for other in referrers[base]:
+            waiting[other].discard(base)
+            if not waiting[other]:
+                heapq.heappush(ready, other)
     for base in sorted(waiting.keys() - set(ordered)):
         left_out[base] = f"it refers to {min(waiting[base])}, which is left out or refers back"
     return ordered, left_out
@@ -91,10 +91,10 @@ def body_head(base, objects, store):
     """The lines of a body for `nixkeep import`, and the empty line."""
     _, (_, _, _, deriver, address) = objects.objects[base]
     lines = [f"path: {paths.full(base, store)}", f"nar-hash: {paths.nar_hash(objects.checked[base].digest)}"]
-    lines += [f"reference: {paths.full(it, store)}" for it in objects.references[base]]
+    lines += [f"reference: {paths.full(target, store)}" for target in objects.references[base]]
     lines += [f"deriver: {paths.full(deriver, store)}"] if deriver else []
     lines += [f"ca: {address}"] if address else []
-    return "".join(it + "\n" for it in lines).encode() + b"\n"
+    return "".join(line + "\n" for line in lines).encode() + b"\n"
 
 
 def write_imports(folder, imported, objects, store):
@@ -103,8 +103,8 @@ def write_imports(folder, imported, objects, store):
     for at, base in enumerate(imported, 1):
         with open(f"{folder}/objects/{at:0{width}}-{base}", "xb") as file:
             file.write(body_head(base, objects, store))
-            for it in objects.archive(base):
-                file.write(it)
+            for piece in objects.archive(base):
+                file.write(piece)
 
 
 # ---- roots
@@ -125,7 +125,7 @@ def profile_commands(owner, name, generations, current, store):
             count, last = count + 1, target
             yield command(owner, "profile", "set", name, paths.full(target, store)) + f"  # generation {number}"
         numbers[number] = count
-    chosen = max([it for it in numbers if it <= current] or numbers)
+    chosen = max([number for number in numbers if number <= current] or numbers)
     if numbers[chosen] != count:
         yield command(owner, "profile", "switch", name, str(numbers[chosen])) + f"  # generation {chosen}"
 
@@ -152,8 +152,8 @@ def root_commands(rows, store):
 def kept_roots(rows, faults, kept):
     """The rows of roots that can be set again, by table; and pairs of a row and the reason why it is left out."""
     rules = collections.defaultdict(list)
-    for it in faults:
-        rules[it.table, it.row].append(it.rule)
+    for fault in faults:
+        rules[fault.table, fault.row].append(fault.rule)
     sound, left_out = {}, []
     for table in ("permanent", "user_root", "generation", "runtime", "temp_root"):
         sound[table] = []
@@ -161,7 +161,7 @@ def kept_roots(rows, faults, kept):
             key = row[:FORMS[table][1]]
             why = [*rules[table, key], *([] if row[-1] in kept else ["its target is left out"])]
             if table == "generation":
-                why += [it for it in rules["profile", row[:2]] if not it.startswith("cur ")]
+                why += [rule for rule in rules["profile", row[:2]] if not rule.startswith("cur ")]
             if why:
                 left_out.append((shown(table, key), why[0]))
             else:
@@ -194,7 +194,7 @@ def rescue(folder: str, file: str, examined: Examined) -> Rescued:
     imported, left_out = in_order(objects, bad_objects(objects, faults, rows.partial))
     roots, left_roots = kept_roots(rows, faults, set(imported))
     with made(folder):
-        disk_room.demand(sum(objects.checked[it].size for it in imported), folder)
+        disk_room.demand(sum(objects.checked[base].size for base in imported), folder)
         write_imports(folder, imported, objects, store)
         with open(f"{folder}/store.toml", "x") as out:
             out.write(f'store-dir = "{store}"\n')
@@ -203,9 +203,9 @@ def rescue(folder: str, file: str, examined: Examined) -> Rescued:
             # (no file name ends the comment that it is in)
             out.write(SCRIPT.format(file=ascii(file), count=len(imported)))
             commands = root_commands(roots, store)
-            out.writelines(f"{it}\n" for it in ["", "# The roots, each set by its owner.", *commands])
+            out.writelines(f"{line}\n" for line in ["", "# The roots, each set by its owner.", *commands])
         os.chmod(f"{folder}/restore.new", 0o700)
         os.rename(f"{folder}/restore.new", f"{folder}/restore")
     count = sum(len(of_table) for table, of_table in roots.items() if table != "profile")
-    lost = [(shown("object", (it,)), why) for it, why in sorted(left_out.items())]
+    lost = [(shown("object", (base,)), why) for base, why in sorted(left_out.items())]
     return Rescued(len(imported), count, [*lost, *left_roots])

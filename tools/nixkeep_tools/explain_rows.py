@@ -24,8 +24,9 @@ HASH = "hash isn't the SHA-256 of the archive"
 
 def shown_columns(table):
     """The columns as they are read: an archive's by their length alone."""
-    names = [it.split()[0] for it in FORMS[table][0]]
-    return [f"iif(typeof({it}) = 'blob', length({it}), NULL)" if it in ("nar", "bytes") else it for it in names]
+    names = [column.split()[0] for column in FORMS[table][0]]
+    return [f"iif(typeof({name}) = 'blob', length({name}), NULL)" if name in ("nar", "bytes") else name
+            for name in names]
 
 
 def scanned(conn: sqlite3.Connection, text: str, parameters: tuple = ()) -> tuple[list[tuple], str | None]:
@@ -34,7 +35,7 @@ def scanned(conn: sqlite3.Connection, text: str, parameters: tuple = ()) -> tupl
     try:
         for row in conn.execute(text, parameters):
             # (one text for all rows that name an object, since there may be millions)
-            rows.append(tuple([sys.intern(it) if type(it) is str else it for it in row]))
+            rows.append(tuple([sys.intern(value) if type(value) is str else value for value in row]))
     except DAMAGED as error:
         return rows, str(error)
     return rows, None
@@ -43,7 +44,7 @@ def scanned(conn: sqlite3.Connection, text: str, parameters: tuple = ()) -> tupl
 def keys_of(conn, table):
     """The query of the keys of a table by the index of its key, or None without such an index."""
     columns, key = FORMS[table]
-    names = ", ".join(it.split()[0] for it in columns[:key])
+    names = ", ".join(column.split()[0] for column in columns[:key])
     index = [row[1] for row in scanned(conn, "SELECT * FROM pragma_index_list(?)", (table,))[0] if row[3] == "pk"]
     return f'SELECT rowid, {names} FROM {table} INDEXED BY "{index[0]}" ORDER BY {names}' if index else None
 
@@ -87,7 +88,7 @@ def read_table(conn, table):
         # (an index of all columns has the row whole)
         whole = {rowid: keys[rowid]} if width == len(FORMS[table][0]) else {}
         rows.update({row[0]: row[1:] for row in single} or whole)
-    lost = [Fault(table, keys[it], "the row can't be read") for it in sorted(keys.keys() - rows.keys())]
+    lost = [Fault(table, keys[key], "the row can't be read") for key in sorted(keys.keys() - rows.keys())]
     is_whole = not problem and in_index <= in_table or not key_problem and in_table <= in_index
     faults = [Fault(table, None, f"not all pages can be read: {problem}"), *lost] if problem else lost
     return Read(rows, is_whole and not lost, faults)
@@ -168,8 +169,8 @@ class Objects:
             self.outputs[base].append((name, target))
         for rowid, (base, num, length) in rows.tables["piece"].items():
             self.pieces[base].append((num, rowid, length))
-        for it in self.pieces.values():
-            it.sort()
+        for pieces in self.pieces.values():
+            pieces.sort()
         self.checked = {}
 
     def archive(self, base: str) -> Iterator[bytes]:
@@ -305,13 +306,13 @@ class ArchiveRead:
         self.plain = self.inner.digest() if self.is_file and top.kind == "r" else None
 
     def passing(self, pieces: Iterable[bytes]) -> Iterator[bytes]:
-        for it in pieces:
-            self.size += len(it)
-            self.whole.update(it)
-            yield it
+        for piece in pieces:
+            self.size += len(piece)
+            self.whole.update(piece)
+            yield piece
 
-    def take(self, path: bytes, part: bytes) -> None:
-        if path == b".":
+    def take(self, is_top: bool, part: bytes) -> None:
+        if is_top:
             self.inner.update(part)
             if self.contents is not None:
                 self.contents += part

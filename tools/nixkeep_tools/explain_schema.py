@@ -21,7 +21,7 @@ def shown(table: str, row: tuple | None) -> str:
     """A row in words: its table and the values of its key."""
     if row is None:
         return table
-    return f"{table} ({', '.join(it if isinstance(it, str) and it.isprintable() else repr(it) for it in row)})"
+    return f"{table} ({', '.join(key if isinstance(key, str) and key.isprintable() else repr(key) for key in row)})"
 
 
 def lower(name: str) -> str:
@@ -40,7 +40,7 @@ def entries_of(conn: sqlite3.Connection) -> list[Entry]:
 
 def words_of(text: str) -> list[str]:
     """The words of a statement in capitals, with their quotes, and without comments."""
-    return [it.upper() for it in _SQL.findall(text) if not it.startswith(("--", "/*"))]
+    return [word.upper() for word in _SQL.findall(text) if not word.startswith(("--", "/*"))]
 
 
 # ---- the form of one table
@@ -71,7 +71,7 @@ def form_faults(conn, entry):
 def column_faults(conn, table):
     columns, key = FORMS[table]
     rows = list(conn.execute("SELECT * FROM pragma_table_xinfo(?)", (table,)))
-    names, wanted = [row[1] for row in rows], [it.split()[0] for it in columns]
+    names, wanted = [row[1] for row in rows], [column.split()[0] for column in columns]
     if names != wanted:
         yield f"the columns are {', '.join(names)}, and have to be {', '.join(wanted)}"
         return
@@ -112,7 +112,7 @@ def index_columns(conn, name):
 def has_hidden_index(conn: sqlite3.Connection, table: str) -> bool:
     """Whether a table has an index with a WHERE or an expression."""
     indexes = conn.execute("SELECT * FROM pragma_index_list(?)", (table,)).fetchall()
-    return any(row[4] or any(it[1] == -2 for it in index_columns(conn, row[1])) for row in indexes)
+    return any(row[4] or any(column[1] == -2 for column in index_columns(conn, row[1])) for row in indexes)
 
 
 def index_faults(conn, table):
@@ -157,13 +157,13 @@ def faults_by_others(conn: sqlite3.Connection, entries: list[Entry]) -> Iterator
 
 def taken(entries: list[Entry]) -> dict[str, Entry]:
     """The entries that have a name of one of the store's tables, by this name."""
-    return {lower(it.name): it for it in entries if lower(it.name) in FORMS}
+    return {lower(entry.name): entry for entry in entries if lower(entry.name) in FORMS}
 
 
 def lacks_counter(entries: list[Entry]) -> bool:
     """Whether a table counts its rowids without the table for it, so that SQLite can't add a table."""
-    counts = any(it.type == "table" and "AUTOINCREMENT" in words_of(it.text) for it in entries)
-    return counts and "sqlite_sequence" not in {lower(it.name) for it in entries}
+    counts = any(entry.type == "table" and "AUTOINCREMENT" in words_of(entry.text) for entry in entries)
+    return counts and "sqlite_sequence" not in {lower(entry.name) for entry in entries}
 
 
 def number_by_tables(names: Collection[str]) -> int:
@@ -200,12 +200,12 @@ def described(entry):
 def shared_trees(entries):
     """Tables that have the same pages, which no honest program makes."""
     by_root = collections.defaultdict(list)
-    for it in entries:
-        if it.root:
-            by_root[it.root].append(it.name)
+    for entry in entries:
+        if entry.root:
+            by_root[entry.root].append(entry.name)
     for names in by_root.values():
-        for table in (it for it in names if len(names) > 1 and it in FORMS):
-            yield Fault(table, None, f"its pages are those of {', '.join(it for it in names if it != table)} too")
+        for table in (name for name in names if len(names) > 1 and name in FORMS):
+            yield Fault(table, None, f"its pages are those of {', '.join(name for name in names if name != table)} too")
 
 
 def is_of_form(conn: sqlite3.Connection, entry: Entry) -> bool:

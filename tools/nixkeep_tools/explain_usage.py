@@ -8,7 +8,7 @@ def table(heads, rows):
     """Lines of columns: numbers to the right in 16 places, and a text at the end."""
     numbers = len(heads) - 1
     for row in [heads, *rows]:
-        yield "  ".join([*(f"{it:>16}" for it in row[:numbers]), str(row[numbers])])
+        yield "  ".join([*(f"{value:>16}" for value in row[:numbers]), str(row[numbers])])
 
 
 def roots_table(usages):
@@ -25,7 +25,7 @@ def owners_table(store, kept):
 def generations_table(store, usages):
     """The generations of each profile; the current one can't be deleted."""
     rows = []
-    for root, usage in sorted(usages, key=lambda it: (it[0].owner or "", it[0].name or "", it[0].number or 0)):
+    for root, usage in sorted(usages, key=lambda pair: (pair[0].owner or "", pair[0].name or "", pair[0].number or 0)):
         if root.kind == "profile":
             is_current = store.current[root.owner, root.name] == root.number
             text = f"{root.owner} {root.name} {root.number}  {root.target}"

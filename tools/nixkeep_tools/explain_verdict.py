@@ -22,7 +22,7 @@ class Examined:
         self.rows, self.objects, self.row_faults, self.are_rows_tested = None, None, [], False
         self.entries = explain_schema.entries_of(conn)
         self.names = explain_schema.taken(self.entries)
-        self.formed = {it for it, entry in self.names.items() if explain_schema.is_of_form(conn, entry)}
+        self.formed = {name for name, entry in self.names.items() if explain_schema.is_of_form(conn, entry)}
         self.meta = dict(explain_rows.scanned(conn, "SELECT word, val FROM meta")[0]) if "meta" in self.formed else {}
         self.faults = [*explain_pages.faults(conn, self.entries, path), *self.schema_faults(conn)]
         if self.names:
@@ -43,7 +43,7 @@ class Examined:
     @property
     def schema(self) -> int:
         """The schema whose tables the file should have."""
-        tables = [name for name, it in self.names.items() if it.type == "table"]
+        tables = [name for name, entry in self.names.items() if entry.type == "table"]
         return self.stated if self.stated in LACKS else explain_schema.number_by_tables(tables)
 
     @property
@@ -54,17 +54,18 @@ class Examined:
     @property
     def foreign(self) -> list[str]:
         """The tables and views of other programs."""
-        others = [it.name for it in self.entries if it.type in ("table", "view") and it.name not in self.names]
-        return [it for it in others if not it.startswith("sqlite_")]
+        others = [entry.name for entry in self.entries
+                  if entry.type in ("table", "view") and entry.name not in self.names]
+        return [name for name in others if not name.startswith("sqlite_")]
 
     def schema_faults(self, conn: sqlite3.Connection) -> Iterator[Fault]:
         if not self.names:
             yield from explain_schema.faults_by_others(conn, self.entries)
             if explain_schema.lacks_counter(self.entries):
                 yield Fault("sqlite_sequence", None, "the table is missing, and a table counts by it")
-        for it in explain_schema.faults(conn, self.entries, LAST if self.is_of_another else self.schema):
-            if it.table in self.names or self.formed:
-                yield it
+        for fault in explain_schema.faults(conn, self.entries, LAST if self.is_of_another else self.schema):
+            if fault.table in self.names or self.formed:
+                yield fault
 
     def read(self, conn: sqlite3.Connection) -> None:
         """Reads the rows, and tests them if all tables of the schema are there and no other."""
@@ -95,7 +96,7 @@ class Examined:
         if not self.names:
             what = "the database of another program" if self.entries else "an empty database"
             return f"no store yet: {what}, to which nixkeep adds its tables"
-        count, size = len(self.objects.checked), sum(it.size for it in self.objects.checked.values())
+        count, size = len(self.objects.checked), sum(item.size for item in self.objects.checked.values())
         later = "" if self.schema == LAST else f", which the next command brings to schema {LAST}"
         what = f"{count_of(count, 'object')} of {count_of(size, 'byte')} in {self.store_dir}"
         return f"sound: {what}, schema {self.schema}{later}"

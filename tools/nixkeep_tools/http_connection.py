@@ -54,9 +54,9 @@ class Connection:
             self.connect()
 
     def close(self) -> None:
-        for it in (self.sock, self.reply and self.reply.sock):
-            if it is not None:
-                it.close()
+        for sock in (self.sock, self.reply and self.reply.sock):
+            if sock is not None:
+                sock.close()
         self.sock = self.reply = None
 
     # ---- a request
@@ -71,16 +71,16 @@ class Connection:
             raise NotHttp
         lines = [f"{method} {target} HTTP/1.1", f"Host: {self.authority()}", "Accept-Encoding: identity"]
         lines += [f"{name}: {value}" for name, value in fields.items()]
-        return "".join(f"{it}\r\n" for it in [*lines, ""]).encode("latin-1")
+        return "".join(f"{line}\r\n" for line in [*lines, ""]).encode("latin-1")
 
     def send(self, method: str, target: str, body: Iterable[bytes], fields: dict[str, str]) -> None:
         """Sends a request. The body is an iterable of bytes, of which short ones are sent together."""
         waiting = self.head(method, target, fields)
-        for it in body:
-            if len(waiting) + len(it) > PIECE:
+        for piece in body:
+            if len(waiting) + len(piece) > PIECE:
                 self.sock.sendall(waiting)
                 waiting = b""
-            waiting += it
+            waiting += piece
         self.sock.sendall(waiting)
 
     # ---- its reply

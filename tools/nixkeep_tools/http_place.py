@@ -35,7 +35,7 @@ class Place:
 
     def is_same(self, other: "Place") -> bool:
         """Whether both name the same server."""
-        key = lambda it: (it.scheme, it.socket, it.host, it.port or {"https": 443}.get(it.scheme, 80))
+        key = lambda place: (place.scheme, place.socket, place.host, place.port or {"https": 443}.get(place.scheme, 80))
         return key(self) == key(other)
 
     def connection(self, ca: str | None = None) -> http_connection.Connection:

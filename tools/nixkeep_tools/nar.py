@@ -38,12 +38,23 @@ class Fault(ValueError):
 class Node:
     """A node of an archive.
 
-    `kind` is its letter in a listing: `d`, `r`, `x` (executable) or `l`. `path` is bytes: `.` for the top and `./a/b`
-    below. `size` is the length of a file's contents, `target` the bytes of a link; both are None elsewhere.
+    `kind` is its letter in a listing: `d`, `r`, `x` (executable) or `l`. `name` is `.` for the top, and `above` the
+    folder that it is in, or None. `size` is the length of a file's contents, `target` the bytes of a link; both are
+    None elsewhere.
     """
 
-    def __init__(self, kind: str, path: bytes, size: int | None = None, target: bytes | None = None):
-        self.kind, self.path, self.size, self.target = kind, path, size, target
+    def __init__(self, kind: str, name: bytes, above: Node | None, size: int | None = None,
+                 target: bytes | None = None):
+        self.kind, self.name, self.above, self.size, self.target = kind, name, above, size, target
+        self.made = name if above is None else None
+
+    @property
+    def path(self) -> bytes:
+        """The path: `.` for the top and `./a/b` below. It is made where it is asked for: a folder may have a name of
+        megabytes, which is in the path of each of the many nodes in it."""
+        if self.made is None:
+            self.made = self.above.path + b"/" + self.name
+        return self.made
 
 
 class _Input:
@@ -120,42 +131,43 @@ class _Input:
         return length
 
 
-def _file(given, path, contents):
+def _file(given, name, above, contents):
     is_executable = given.word(b"executable", b"contents") == b"executable"
     if is_executable:
         given.word(b"")
         given.word(b"contents")
-    size = given.contents((lambda part: contents(path, part)) if contents else len)
-    return Node("x" if is_executable else "r", path, size)
+    size = given.contents((lambda part: contents(above is None, part)) if contents else len)
+    return Node("x" if is_executable else "r", name, above, size)
 
 
-def _node(given, path, contents):
+def _node(given, name, above, contents):
     """A node whole, or of a directory what comes before its entries."""
     given.word(b"(")
     given.word(b"type")
     kind = given.word(b"regular", b"symlink", b"directory")
     if kind == b"directory":
-        return Node("d", path)
+        return Node("d", name, above)
     if kind == b"regular":
-        node = _file(given, path, contents)
+        node = _file(given, name, above, contents)
     else:
         given.word(b"target")
-        node = Node("l", path, target=given.string())
+        node = Node("l", name, above, target=given.string())
     given.word(b")")
     return node
 
 
-def walk(pieces: Iterable[bytes], contents: Callable[[bytes, bytes], object] | None = None) -> Iterator[Node]:
+def walk(pieces: Iterable[bytes], contents: Callable[[bool, bytes], object] | None = None) -> Iterator[Node]:
     """Yields the nodes of an archive, parents first and entries in order. Raises the first Fault of any other input.
 
-    `contents`, if given, is called with the path of each file and each part of its contents, before the file's node.
+    `contents`, if given, is called for each part of a file's contents, before the file's node: with whether the file is
+    the top, and the part.
     """
     given, folders = _Input(pieces), []
     given.word(b"nix-archive-1")
-    top = _node(given, b".", contents)
+    top = _node(given, b".", None, contents)
     yield top
     if top.kind == "d":
-        folders.append([b".", None])
+        folders.append([top, None])
     while folders:
         folder = folders[-1]
         if given.word(b"entry", b")") == b")":
@@ -170,10 +182,10 @@ def walk(pieces: Iterable[bytes], contents: Callable[[bytes, bytes], object] | N
         given.word(b"node")
         if len(folders) == DEPTH:
             raise given.fault("too-deep")
-        node = _node(given, folder[0] + b"/" + folder[1], contents)
+        node = _node(given, folder[1], folder[0], contents)
         yield node
         if node.kind == "d":
-            folders.append([node.path, None])
+            folders.append([node, None])
         else:
             given.word(b")")
     given.start = given.offset
@@ -192,7 +204,7 @@ def check(pieces: Iterable[bytes]) -> Fault | None:
 
 
 def _shown(text):
-    return "".join(chr(it) if 33 <= it <= 126 and it != 92 else f"\\x{it:02x}" for it in text)
+    return "".join(chr(byte) if 33 <= byte <= 126 and byte != 92 else f"\\x{byte:02x}" for byte in text)
 
 
 def line(node):

@@ -50,15 +50,15 @@ def source_address(record: Record, folder: str) -> str | None:
     """The content address of a source if the path is that of one, else None."""
     if record.base in record.refs:
         return None
-    of = paths.path_of("source", record.nar_hash, record.base[33:], record.refs, folder)
-    return paths.address("source", record.nar_hash) if of == record.base else None
+    base = paths.path_of("source", record.nar_hash, record.base[33:], record.refs, folder)
+    return paths.address("source", record.nar_hash) if base == record.base else None
 
 
 def contents(archive: bytes) -> bytes | None:
     """The contents of an archive that is a regular file and not executable, else None."""
     data = bytearray()
     try:
-        kinds = [it.kind for it in nar.walk([archive], lambda _, part: data.extend(part))]
+        kinds = [node.kind for node in nar.walk([archive], lambda _, part: data.extend(part))]
     except nar.Fault:
         return None
     return bytes(data) if kinds == ["r"] else None
@@ -70,8 +70,8 @@ def text_address(record: Record, archive: bytes, folder: str) -> str | None:
     if text is None:
         return None
     digest = paths.sha256([text])
-    of = paths.path_of("text", digest, record.base[33:], record.refs, folder)
-    return paths.address("text", digest) if of == record.base else None
+    base = paths.path_of("text", digest, record.base[33:], record.refs, folder)
+    return paths.address("text", digest) if base == record.base else None
 
 
 def _is_address(text):
@@ -201,12 +201,12 @@ class Store:
         for base in tops:
             if not self.keep(base):
                 raise Stop(f"refused: {NOT_VALID} not-valid {self.full(base)}", REFUSED)
-        records, left, names, count = {}, list(tops), {it: it for it in tops}, 0
+        records, left, names, count = {}, list(tops), {base: base for base in tops}, 0
         while left:
             record = self.record(left.pop())
-            left += {*record.refs} - names.keys()
+            left += {base for base in record.refs if base not in names}
             # (one text for all that refer to an object)
-            records[record.base] = record._replace(refs=[names.setdefault(it, it) for it in record.refs])
+            records[record.base] = record._replace(refs=[names.setdefault(base, base) for base in record.refs])
             count += len(record.refs)
             if len(names) > CLOSURE:
                 raise Stop(f"failed: answer: {self}: the closure has more than {CLOSURE} objects")
@@ -259,7 +259,7 @@ class Store:
         """Imports an object and keeps it. Returns False if a reference of it isn't valid. `of_large` returns an
         iterable of the bytes of a large archive, which isn't given whole."""
         pairs = [("path", record.base), ("nar-hash", paths.nar_hash(record.nar_hash))]
-        pairs += [("reference", it) for it in record.refs]
+        pairs += [("reference", base) for base in record.refs]
         address = None if of_large else record.ca or text_address(record, archive, self.folder)
         pairs += [(key, value) for key, value in (("deriver", record.deriver), ("ca", address)) if value]
         head, about = lines(*pairs), self.full(record.base)

@@ -33,14 +33,14 @@ def sums(weights, count):
             while carry:
                 planes += [0] * (digit + 1 - len(planes))
                 planes[digit], carry, digit = planes[digit] ^ carry, planes[digit] & carry, digit + 1
-    digits = [f"{it:0{count}b}"[::-1] for it in planes[::-1]]
+    digits = [f"{plane:0{count}b}"[::-1] for plane in planes[::-1]]
     return [int("".join(column), 2) for column in zip(*digits)] if digits else [0] * count
 
 
 def usages(sizes, count):
     """The Usage of each root. `sizes` are bytes by the numbers whose bits are the roots that reach them."""
     alone = collections.Counter({bits: size for bits, size in sizes.items() if not bits & bits - 1})
-    return [Usage(*it) for it in zip(sums(sizes, count), sums(alone, count))]
+    return [Usage(*pair) for pair in zip(sums(sizes, count), sums(alone, count))]
 
 
 class Overview:
@@ -57,8 +57,8 @@ class Overview:
 
     def sizes(self, bits: dict[str, int]) -> collections.Counter:
         sizes = collections.Counter()
-        for base, it in bits.items():
-            sizes[it] += self.store.objects[base].size
+        for base, mask in bits.items():
+            sizes[mask] += self.store.objects[base].size
         return sizes
 
     def total(self, is_counted: Callable[[int], bool]) -> tuple[int, int]:
@@ -74,12 +74,12 @@ class Overview:
                                       lambda _, root: groups[root.owner or "", root.kind])
         used = usages(self.sizes(together), len(groups))
         lines = [Line(*key, counts[key], used[at]) for key, at in groups.items()]
-        return sorted(lines, key=lambda it: (-it.usage.all, -it.usage.alone, it.owner, it.kind))
+        return sorted(lines, key=lambda line: (-line.usage.all, -line.usage.alone, line.owner, line.kind))
 
     def roots(self) -> list[tuple[store_file.Root, Usage]]:
         """Each root with its Usage, largest first."""
         pairs = zip(self.store.roots, self.used)
-        return sorted(pairs, key=lambda it: (-it[1].all, -it[1].alone, it[0].label, it[0].target))
+        return sorted(pairs, key=lambda pair: (-pair[1].all, -pair[1].alone, pair[0].label, pair[0].target))
 
     def profiles(self, roots: list[tuple[store_file.Root, Usage]]) -> list[tuple]:
         """Pairs of an owner and a profile's name, each with its generations: root, Usage, and whether it is the
@@ -89,12 +89,12 @@ class Overview:
             if root.kind == "profile":
                 is_current = self.store.current.get((root.owner, root.name)) == root.number
                 profiles[root.owner, root.name].append((root, used, is_current))
-        return [(key, sorted(profiles[key], key=lambda it: -it[0].number)) for key in sorted(profiles)]
+        return [(key, sorted(profiles[key], key=lambda pair: -pair[0].number)) for key in sorted(profiles)]
 
     def dead(self) -> list[tuple[str, int]]:
         """The dead paths with their sizes, largest first."""
         dead = [(base, self.store.objects[base].size) for base, bits in self.bits.items() if not bits]
-        return sorted(dead, key=lambda it: (-it[1], it[0]))
+        return sorted(dead, key=lambda pair: (-pair[1], pair[0]))
 
     def why(self, base: str) -> Why | None:
         """Why a path is kept, or None for a path that isn't there."""
@@ -140,9 +140,10 @@ def quoted(text):
 def graph(why):
     """The chain as a graph in the language of graphviz."""
     nodes = [f"r [shape=plain label={quoted(why.root.label)}]"]
-    nodes += [f"n{at} [label={quoted(it.base[33:])} tooltip={quoted(it.base)}]" for at, it in enumerate(why.steps)]
+    nodes += [f"n{at} [label={quoted(step.base[33:])} tooltip={quoted(step.base)}]"
+              for at, step in enumerate(why.steps)]
     names = ["r", *(f"n{at}" for at in range(len(why.steps)))]
-    edges = [f"{a} -> {b} [label={quoted(it.by)}]" for a, b, it in zip(names, names[1:], why.steps)]
+    edges = [f"{a} -> {b} [label={quoted(step.by)}]" for a, b, step in zip(names, names[1:], why.steps)]
     style = 'bgcolor=transparent; node [shape=box style=rounded fontname="sans-serif"]; '
     style += 'edge [fontname="sans-serif" fontsize=11]'
     return f"digraph why {{ {style}; {'; '.join([*nodes, *edges])} }}"

@@ -19,14 +19,15 @@ TEMPLATE = """<header>
 {% macro column(kind, at, high) %}<rect class="{{ kind }}" x="{{ 20 * at + 2 }}" y="{{ (130 - high)|round(1) }}"
   width="16" height="{{ high }}" />
 {% endmacro %}
-{% for it in spans %}{{ column("all", loop.index0, it.high) }}{{ column("bad", loop.index0, it.bad) }}{% endfor %}
+{% for span in spans %}{{ column("all", loop.index0, span.high) }}{{ column("bad", loop.index0, span.bad) }}{% endfor %}
 </svg></figure>
 <p class="quiet">Requests, and those that failed (status 500 and above). The highest column has
   {{ '{:,}'.format(highest) }}. The last one is the present half hour.</p>
 <div class="wide" tabindex="0" role="region" aria-labelledby="hours"><table aria-labelledby="hours">
 <thead><tr><th scope="col">From</th>{{ heads() }}<th scope="col" class="n full">Slowest</th></tr></thead>
-<tbody>{% for it in spans|reverse if it.sums.requests %}<tr><th scope="row">{{ it.time }}</th>{{ cells(it.sums) }}
-  <td class="n full">{{ seconds(it.slowest) }}</td></tr>{% endfor %}</tbody></table></div>
+<tbody>{% for span in spans|reverse if span.sums.requests %}<tr><th scope="row">{{ span.time }}</th>
+  {{ cells(span.sums) }}
+  <td class="n full">{{ seconds(span.slowest) }}</td></tr>{% endfor %}</tbody></table></div>
 
 {% for word, name, lines in tables %}<h2 id="{{ name }}">{{ word }}</h2>
 <div class="wide" tabindex="0" role="region" aria-labelledby="{{ name }}"><table aria-labelledby="{{ name }}">
@@ -61,7 +62,7 @@ def column(part, highest):
 def page(day: Day, store: str, link: str, tiles: list[tuple[str, str]], notices: list[str]) -> str:
     """The page. `tiles` are further pairs of a word and a value, `notices` lines of what needs somebody."""
     sums, spans = day.sums(), day.spans()
-    highest = max(it["sums"]["requests"] for it in spans)
+    highest = max(span["sums"]["requests"] for span in spans)
     lookups = sums["found"] + sums["missing"]
     count = "{:,}".format
     return rendered(
@@ -71,7 +72,7 @@ def page(day: Day, store: str, link: str, tiles: list[tuple[str, str]], notices:
         link=link,
         seconds=seconds,
         highest=highest,
-        spans=[column(it, highest or 1) for it in spans],
+        spans=[column(span, highest or 1) for span in spans],
         tiles=[
             ("requests", count(sums["requests"])),
             ("changes", count(sums["changes"])),

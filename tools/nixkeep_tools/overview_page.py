@@ -12,14 +12,14 @@ TEMPLATE = """{% macro path(base) %}
 <header>
 <h1>{% if why %}Why is {{ why.base[33:] }} kept?{% else %}Who keeps what
   {%- if name %} in {{ name }}{% endif %}{% endif %}</h1>
-<p class="quiet">{% if why and name %}The store {{ name }}, {% endif %}{{ it.store.store_dir }}, {{ time }}
+<p class="quiet">{% if why and name %}The store {{ name }}, {% endif %}{{ figures.store.store_dir }}, {{ time }}
 {%- if why and link %}. <a href="{{ link }}">All of the store</a>{% endif %}
 {%- if link %}. <a href="{{ link }}/day">The last day</a>{% endif %}</p>
 </header>
 <main id="main">
 {% if missing %}<p class="notice" role="alert">There is no path {{ missing }} in this store.</p>{% endif %}
 {% if why %}
-<p class="path">{{ it.store.store_dir }}/{{ why.base }}, {{ size(it.store.objects[why.base].size) }}.</p>
+<p class="path">{{ figures.store.store_dir }}/{{ why.base }}, {{ size(figures.store.objects[why.base].size) }}.</p>
 {% if why.root %}
 <p>Its first root is <strong>{{ why.root.label }}</strong>. The shortest chain from there:</p>
 <ol>{% for step in why.steps %}<li class="path">{{ words[step.by] }} {{ path(step.base) }}</li>{% endfor %}</ol>
@@ -30,14 +30,14 @@ TEMPLATE = """{% macro path(base) %}
 {% endif %}
 {% else %}<p>No root reaches it. The next collection deletes it.</p>{% endif %}
 {% else %}
-{% if it.differs %}<p class="notice"
- role="alert">The server's own listing of live paths differs by {{ many(it.differs, 'path') }}: the store changed
+{% if figures.differs %}<p class="notice"
+ role="alert">The server's own listing of live paths differs by {{ many(figures.differs, 'path') }}: the store changed
   meanwhile, or its settings keep-outputs and keep-derivations are others.</p>{% endif %}
 <dl class="sums">{% for word, (count, bytes) in sums %}<div><dt>{{ word }}</dt><dd class="size">{{ size(bytes) }}</dd>
   <dd>{{ many(count, 'path') }}</dd></div>{% endfor %}</dl>
 <p>A collection would free {{ size(sums[1][1][1]) }}: {{ many(sums[1][1][0], 'dead path') }}.</p>
 {% if link %}<form action="{{ link }}"><label for="why">Why is this path kept?</label>
-<input id="why" name="why" required autocomplete="off" placeholder="{{ it.store.store_dir }}/..">
+<input id="why" name="why" required autocomplete="off" placeholder="{{ figures.store.store_dir }}/..">
 <button>Show</button></form>{% endif %}
 
 <h2 id="owners">By owner and kind</h2>
@@ -101,33 +101,35 @@ WORDS = {
 KINDS = {"hidden": "runtime or session, hidden"}
 
 
-def page(it: overview.Overview, name: str | None = None, link: str | None = None, why: str | None = None) -> str:
+def page(figures: overview.Overview, name: str | None = None, link: str | None = None,
+         why: str | None = None) -> str:
     """The page of an Overview. `name` is that of the store, or None; `link` is where the page is served, or None for
     one by itself; `why` a path to explain."""
-    sums = [("live", it.total(bool)), ("dead", it.total(lambda bits: not bits)), ("in all", it.total(lambda _: True))]
-    reason = it.why(why) if why else None
+    sums = [("live", figures.total(bool)), ("dead", figures.total(lambda bits: not bits)),
+            ("in all", figures.total(lambda _: True))]
+    reason = figures.why(why) if why else None
     drawing = overview.drawing(reason) if reason and reason.root and len(reason.steps) <= overview.DRAWN else None
-    roots = it.roots()
+    roots = figures.roots()
     share = lambda size: f"{100 * size / (sums[2][1][1] or 1):.1f}"
     title = f"Why {reason.base[33:]} is kept" if reason else "Who keeps what"
     return rendered(
         TEMPLATE,
         title=f"{title} in {name}" if name else title,
-        it=it,
+        figures=figures,
         name=name,
         link=link,
         share=share,
         kinds=KINDS,
-        program="nixkeep-remote" if it.is_served else "nixkeep",
+        program="nixkeep-remote" if figures.is_served else "nixkeep",
         words=WORDS,
         why=reason,
         missing=None if reason else why,
         drawing=drawing and markupsafe.Markup(drawing),
         sums=sums,
-        lines=it.lines(),
+        lines=figures.lines(),
         roots=roots,
-        profiles=[(*key, *line) for key, lines in it.profiles(roots) for line in lines],
-        dead=it.dead(),
+        profiles=[(*key, *line) for key, lines in figures.profiles(roots) for line in lines],
+        dead=figures.dead(),
         most=overview.MOST,
         drawn=overview.DRAWN,
         most_dead=overview.DEAD,

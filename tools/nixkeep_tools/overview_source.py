@@ -43,8 +43,8 @@ def name_of(config: str | None, file: str | None) -> str | None:
     """What people call a store: the name of its configuration, or else that of its file's folder; None where neither
     says anything."""
     # (abspath: of Path's, one leaves `..` in a path, and the other takes links out of it)
-    for it in (config and Path(config).name, file and Path(os.path.abspath(file)).parent.name):
-        name = (it or "").removesuffix(".toml")
+    for part in (config and Path(config).name, file and Path(os.path.abspath(file)).parent.name):
+        name = (part or "").removesuffix(".toml")
         if name not in ("", "store", "nixkeep"):
             return name
     return None
@@ -62,7 +62,7 @@ def of_file(file: str) -> store_file.Store:
 
 def may_be_pointers(objects):
     """The base names of the objects that may be pointers."""
-    return [base for base, it in objects.items() if pointers.may_be(it.size, it.address)]
+    return [base for base, entry in objects.items() if pointers.may_be(entry.size, entry.address)]
 
 
 def sized(item, archive, path):
@@ -91,7 +91,7 @@ def item(text):
     """The object of a record, without its outputs, which a record doesn't have."""
     record = dict(line.split(": ", 1) for line in text.decode().splitlines())
     # (one text for all that refer to an object, since there may be millions of references)
-    references = [sys.intern(it) for it in record["References"].split()]
+    references = [sys.intern(base) for base in record["References"].split()]
     deriver, address = record.get("Deriver"), record.get("CA")
     return store_file.Object(int(record["NarSize"]), None, deriver, address, references, {})
 
@@ -111,8 +111,8 @@ def bases_of(text):
 
 def roots_of(text):
     """The roots that a listing has, each with the base name of its target."""
-    found = (root(*line.split(" ")) for line in text.decode().splitlines())
-    return [it._replace(target=it.target.rpartition("/")[2]) for it in found]
+    roots = (root(*line.split(" ")) for line in text.decode().splitlines())
+    return [entry._replace(target=entry.target.rpartition("/")[2]) for entry in roots]
 
 
 class TooMany(Exception):
@@ -154,25 +154,26 @@ class Records:
             self.objects, self.connection = {}, self.server.connections
         self.refuse_many(text, "objects", len(self.objects))
         listed, store_dir = await self.apart(bases_of, text)
-        await self.read([it for it in listed if it not in self.objects], caller, store_dir)
-        objects = {it: self.objects[it] for it in listed if it in self.objects}
+        await self.read([base for base in listed if base not in self.objects], caller, store_dir)
+        objects = {base: self.objects[base] for base in listed if base in self.objects}
         self.objects = objects
         text = await self.ask(caller, "/roots")
         self.refuse_many(text, "roots")
         roots = await self.apart(roots_of, text)
         live, _ = await self.apart(bases_of, await self.ask(caller, "/live"))
-        return store_file.Store(None, store_dir, objects, [it for it in roots if it.target in objects], {}), {*live}
+        return store_file.Store(
+            None, store_dir, objects, [entry for entry in roots if entry.target in objects], {}), {*live}
 
     async def read(self, bases: list[str], caller: Caller, store_dir: str) -> None:
         # (an object that has been deleted meanwhile is left out)
         infos = self.server.gets(caller, "/info/", bases)
-        fresh = {base: item(it.text) async for base, it in infos if it.status == 200}
-        async for base, it in self.server.gets(caller, "/nar/", may_be_pointers(fresh)):
-            if it.status == 200:
-                fresh[base] = sized(fresh[base], it.text, paths.full(base, store_dir))
+        fresh = {base: item(answer.text) async for base, answer in infos if answer.status == 200}
+        async for base, answer in self.server.gets(caller, "/nar/", may_be_pointers(fresh)):
+            if answer.status == 200:
+                fresh[base] = sized(fresh[base], answer.text, paths.full(base, store_dir))
         self.objects |= fresh
         if self.keeps_outputs:
-            for base in [it for it in bases if it.endswith(".drv")]:
+            for base in [name for name in bases if name.endswith(".drv")]:
                 await self.read_outputs(base, caller, store_dir)
 
     async def read_outputs(self, base, caller, store_dir):

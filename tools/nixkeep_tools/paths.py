@@ -38,7 +38,7 @@ def base32(data: bytes) -> str:
 
 def unbase32(text: str, count: int) -> bytes:
     """The bytes, `count` of them, that the digits spell."""
-    if any(it not in _VALUES for it in text):
+    if any(char not in _VALUES for char in text):
         raise Malformed(9, "bad-digit")
     if len(text) != (8 * count + 4) // 5:
         raise Malformed(10, "bad-length")
@@ -68,7 +68,8 @@ def is_store_name(text: str) -> bool:
 def is_store_dir(text: str) -> bool:
     """Whether the text may be a store directory: an absolute path of at most 200 bytes."""
     start, *folders = text.split("/")
-    is_path = start == "" and folders and all(it and _OF_NAME.issuperset(it) and it not in _DOTS for it in folders)
+    is_path = start == "" and folders and all(
+        name and _OF_NAME.issuperset(name) and name not in _DOTS for name in folders)
     return len(text) <= 200 and bool(is_path)
 
 
@@ -110,8 +111,8 @@ def sha256(pieces: Iterable[bytes]) -> bytes:
     import hashlib
 
     digest = hashlib.sha256()
-    for it in pieces:
-        digest.update(it)
+    for piece in pieces:
+        digest.update(piece)
     return digest.digest()
 
 
@@ -129,7 +130,7 @@ def path_of(kind: str, inner: bytes, name: str, references: Iterable[str] = (), 
     `kind` is `text` or `source`. `inner` is the SHA-256 of the contents of a text, or of the archive of a source.
     The references are base names. Their order and repeats make no difference.
     """
-    start = ":".join([kind, *(full(it, store) for it in sorted(set(references)))])
+    start = ":".join([kind, *(full(base, store) for base in sorted(set(references)))])
     fingerprint = f"{start}:sha256:{inner.hex()}:{store}:{name}"
     return f"{base32(fold20(sha256([fingerprint.encode()])))}-{name}"
 

@@ -44,7 +44,7 @@ def archive(pointer: Pointer) -> bytes:
 def read_line(line: str) -> Pointer:
     """The Pointer in a line of nixkeep-cache's listing of all pointers. Raises ValueError."""
     path, nar_hash, nar_size, file_hash, file_size = line.split(" ")
-    unhashed = [paths.unbase32(it.removeprefix("sha256:"), 32) for it in (nar_hash, file_hash)]
+    unhashed = [paths.unbase32(digest.removeprefix("sha256:"), 32) for digest in (nar_hash, file_hash)]
     return Pointer(path, unhashed[0], int(nar_size), unhashed[1], int(file_size))
 
 
@@ -61,7 +61,7 @@ def read(data: bytes, path: str) -> Pointer | None:
     if not match or match["path"] != path:
         return None
     try:
-        hashes = [paths.unbase32(match[it].removeprefix("sha256:"), 32) for it in ("nar_hash", "file_hash")]
+        hashes = [paths.unbase32(match[name].removeprefix("sha256:"), 32) for name in ("nar_hash", "file_hash")]
     except paths.Malformed:
         return None
     made = Pointer(path, hashes[0], int(match["nar_size"]), hashes[1], int(match["file_size"]))

@@ -112,7 +112,7 @@ class Nix:
         self.send(number(CLOSURE), number(0), strings([*map(self.full, tops)]))
         names = self.strings()
         self.send(number(PATH_INFOS), strings(names))
-        return {it.base: it for it in iter(self.record, None)}
+        return {record.base: record for record in iter(self.record, None)}
 
     def record(self) -> Record | None:
         """Reads the next record, or None after the last."""

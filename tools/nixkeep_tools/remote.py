@@ -37,7 +37,7 @@ CLASSES = {
     "refused: 34 bad-root-name\n": "trusted",
 }
 # What nixkeep-cache answers to those who may connect.
-ANSWERS = [f"class: {it}\n{CONNECTS}" for it in ("allowed", "trusted")]
+ANSWERS = [f"class: {kind}\n{CONNECTS}" for kind in ("allowed", "trusted")]
 
 
 class Request:
@@ -159,10 +159,10 @@ class Call:
         name, refs = self.values["name"], self.values["reference"]
         if not paths.is_store_name(name):
             raise refused(12, "bad-store-name")
-        for it in refs:
-            _base(it)
+        for ref in refs:
+            _base(ref)
         given = streams.Input(most)
-        head = _lines(("name", name), *(("reference", it) for it in refs))
+        head = _lines(("name", name), *(("reference", ref) for ref in refs))
         # With too many references the server doesn't look at the archive, and the body might be too long.
         return Request("POST", target, head, given if len(refs) <= MOST_REFERENCES else None)
 
@@ -214,10 +214,10 @@ class Call:
         return Request("POST", "/collect", _lines(*pairs))
 
     def ask_delete(self):
-        for it in self.values["path"]:
-            _base(it)
+        for path in self.values["path"]:
+            _base(path)
         pairs = [("ignore-liveness", "true")] * ("ignore-liveness" in self.values)
-        return Request("POST", "/delete", _lines(*(("path", it) for it in self.values["path"]), *pairs))
+        return Request("POST", "/delete", _lines(*(("path", path) for path in self.values["path"]), *pairs))
 
 
 # ---- answers
@@ -281,7 +281,7 @@ def ls(_):
         lines = [*nar.listing(streams.received(MOST_OF_ARCHIVE))]
     except nar.Fault as fault:
         raise refused(fault.number, fault.name) from None
-    streams.write(["".join(f"{it}\n" for it in lines).encode()])
+    streams.write(["".join(f"{line}\n" for line in lines).encode()])
     return DONE
 
 
@@ -292,7 +292,7 @@ def object_path(call):
     values, folder = call.values, call.store_dir or paths.STORE
     try:
         name = paths.store_name(values["name"])
-        refs = [paths.base_name(it, folder) for it in values["reference"]]
+        refs = [paths.base_name(reference, folder) for reference in values["reference"]]
     except paths.Malformed as fault:
         raise refused(fault.number, fault.name) from None
     if len(refs) > MOST_REFERENCES:

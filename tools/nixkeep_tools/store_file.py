@@ -76,7 +76,7 @@ class Locked(OSError):
 
 def opened(path: str) -> BinaryIO:
     """A file that is open for reading. Raises OSError for what is no file: a pipe would be waited for."""
-    file = open(path, "rb", opener=lambda it, flags: os.open(it, flags | os.O_NONBLOCK))
+    file = open(path, "rb", opener=lambda name, flags: os.open(name, flags | os.O_NONBLOCK))
     if stat.S_ISREG(os.fstat(file.fileno()).st_mode):
         return file
     file.close()
@@ -112,9 +112,9 @@ def log_of(path: str) -> str:
 def stamps(path: str) -> list[tuple[int, int, int]]:
     """A value that changes whenever the file or its log is written."""
     stamps = []
-    for it in (path, log_of(path)):
+    for file in (path, log_of(path)):
         with contextlib.suppress(FileNotFoundError):
-            seen = os.stat(it)
+            seen = os.stat(file)
             stamps.append((seen.st_ino, seen.st_size, seen.st_mtime_ns))
     return stamps
 
@@ -193,14 +193,14 @@ def connect(path):
     is_in_log = Path(path).stat().st_size and next(commits(path), None)
     how = "mode=ro&vfs=unix-none" if is_in_log else "mode=ro&immutable=1"
     conn = sqlite3.connect(f"file:{where}?{how}", uri=True, isolation_level=None)
-    conn.text_factory = lambda it: it.decode("utf-8", "surrogateescape")
+    conn.text_factory = lambda text: text.decode("utf-8", "surrogateescape")
     conn.execute("PRAGMA locking_mode = EXCLUSIVE")
     return conn
 
 
 def bytes_of(conn: sqlite3.Connection, pages: str) -> int:
     """The bytes of the pages of a connection's file: of all (`page_count`) or of the unused ones (`freelist_count`)."""
-    count, size = (conn.execute(f"PRAGMA {it}").fetchone()[0] for it in (pages, "page_size"))
+    count, size = (conn.execute(f"PRAGMA {name}").fetchone()[0] for name in (pages, "page_size"))
     return count * size
 
 
@@ -226,7 +226,7 @@ def open_store(path: str, despite_lock: bool = False) -> Iterator[sqlite3.Connec
 def tables_of(conn: sqlite3.Connection) -> list[str]:
     """The names of the store's tables that exist."""
     names = {name for name, in conn.execute("SELECT name FROM sqlite_schema WHERE type = 'table'")}
-    return [it for it in FORMS if it in names]
+    return [table for table in FORMS if table in names]
 
 
 def version(path: str) -> str | None:
@@ -235,8 +235,8 @@ def version(path: str) -> str | None:
     digest = hashlib.sha256()
     try:
         with open_store(path, despite_lock=True) as conn:
-            for it in conn.execute("SELECT base FROM object ORDER BY base"):
-                digest.update(repr(it).encode())
+            for row in conn.execute("SELECT base FROM object ORDER BY base"):
+                digest.update(repr(row).encode())
             for name in tables_of(conn):
                 if name not in ("object", "refs", "outs", "piece"):
                     digest.update(repr((name, sorted(conn.execute(f"SELECT * FROM {name}")))).encode())
@@ -247,9 +247,9 @@ def version(path: str) -> str | None:
 
 def archive(conn: sqlite3.Connection, base: str) -> Iterator[bytes]:
     """Yields the bytes of an object's archive in pieces."""
-    yield from (it for it, in conn.execute("SELECT nar FROM object WHERE base = ?", (base,)))
+    yield from (data for data, in conn.execute("SELECT nar FROM object WHERE base = ?", (base,)))
     if "piece" in tables_of(conn):
-        yield from (it for it, in conn.execute("SELECT bytes FROM piece WHERE base = ? ORDER BY num", (base,)))
+        yield from (piece for piece, in conn.execute("SELECT bytes FROM piece WHERE base = ? ORDER BY num", (base,)))
 
 
 def _lists(rows):
@@ -278,18 +278,18 @@ def read_objects(conn: sqlite3.Connection) -> dict[str, Object]:
 def read_roots(conn):
     """All roots, in nixkeep's order: by kind, target and label."""
     roots = []
-    for name, it in conn.execute("SELECT * FROM permanent"):
-        roots.append(Root("permanent", it, f"gcroots/{name}", None, name, None))
-    for owner, name, it in conn.execute("SELECT * FROM user_root"):
-        roots.append(Root("user", it, f"gcroots/per-user/{owner}/{name}", owner, name, None))
-    for owner, name, num, it in conn.execute("SELECT * FROM generation"):
-        roots.append(Root("profile", it, f"profiles/per-user/{owner}/{name}-{num}-link", owner, name, num))
-    for label, it in conn.execute("SELECT * FROM runtime"):
-        roots.append(Root("runtime", it, label, None, None, None))
+    for name, base in conn.execute("SELECT * FROM permanent"):
+        roots.append(Root("permanent", base, f"gcroots/{name}", None, name, None))
+    for owner, name, base in conn.execute("SELECT * FROM user_root"):
+        roots.append(Root("user", base, f"gcroots/per-user/{owner}/{name}", owner, name, None))
+    for owner, name, num, base in conn.execute("SELECT * FROM generation"):
+        roots.append(Root("profile", base, f"profiles/per-user/{owner}/{name}-{num}-link", owner, name, num))
+    for label, base in conn.execute("SELECT * FROM runtime"):
+        roots.append(Root("runtime", base, label, None, None, None))
     if "temp_root" in tables_of(conn):
-        for owner, session, it in conn.execute("SELECT * FROM temp_root"):
-            roots.append(Root("temporary", it, f"{{temp:{session}}}", owner, None, session))
-    return sorted(roots, key=lambda it: (KINDS.index(it.kind), it.target, it.label, it.owner or ""))
+        for owner, session, base in conn.execute("SELECT * FROM temp_root"):
+            roots.append(Root("temporary", base, f"{{temp:{session}}}", owner, None, session))
+    return sorted(roots, key=lambda root: (KINDS.index(root.kind), root.target, root.label, root.owner or ""))
 
 
 def read(conn: sqlite3.Connection) -> Store:
@@ -305,16 +305,16 @@ def read(conn: sqlite3.Connection) -> Store:
 def edges(store: Store, keep_outputs: bool = False, keep_derivers: bool = True) -> dict:
     """A list for each path: the objects that this object keeps directly, under these settings of a configuration."""
     edges = {}
-    for base, it in store.objects.items():
-        outputs = it.outputs.values() if keep_outputs else []
-        derivers = [it.deriver] if keep_derivers else []
-        edges[base] = [to for to in (*it.references, *outputs, *derivers) if to in store.objects]
+    for base, item in store.objects.items():
+        outputs = item.outputs.values() if keep_outputs else []
+        derivers = [item.deriver] if keep_derivers else []
+        edges[base] = [to for to in (*item.references, *outputs, *derivers) if to in store.objects]
     return edges
 
 
 def reach(kept: dict[str, list[str]], starts: Iterable[str]) -> set[str]:
     """The set of objects that some paths reach, themselves included. `kept` is from `edges`."""
-    seen, left = set(), [it for it in starts if it in kept]
+    seen, left = set(), [base for base in starts if base in kept]
     while left:
         at = left.pop()
         if at not in seen:
@@ -334,7 +334,7 @@ def _components(kept):
             if at not in numbers:
                 numbers[at] = lows[at] = len(numbers)
                 left.append(at)
-            to = next((it for it in rest if it not in grouped), None)
+            to = next((other for other in rest if other not in grouped), None)
             if to is None:
                 open_ones.pop()
                 if open_ones:
@@ -362,7 +362,7 @@ def keepers(store: Store, kept: dict[str, list[str]],
     for group in _components(kept):
         together = functools.reduce(operator.or_, (bits[at] for at in group))
         bits.update(dict.fromkeys(group, together))
-        for to in (it for at in group for it in kept[at] if together):
+        for to in (target for at in group for target in kept[at] if together):
             if bits[to] != together:
                 bits[to] |= together
     return bits
@@ -371,15 +371,15 @@ def keepers(store: Store, kept: dict[str, list[str]],
 def _sizes(store, bits):
     """The bytes of the objects that share a number of `keepers`, by this number."""
     sizes = collections.Counter()
-    for base, it in bits.items():
-        sizes[it] += store.objects[base].size
+    for base, mask in bits.items():
+        sizes[mask] += store.objects[base].size
     return sizes
 
 
 def _usage(sizes, roots):
     """The Usage of some roots, whose bits are set in the number `roots`."""
-    reached = sum(size for it, size in sizes.items() if it & roots)
-    return Usage(reached, sum(size for it, size in sizes.items() if it and not it & ~roots))
+    reached = sum(size for mask, size in sizes.items() if mask & roots)
+    return Usage(reached, sum(size for mask, size in sizes.items() if mask and not mask & ~roots))
 
 
 def owner_of(root):
@@ -388,7 +388,7 @@ def owner_of(root):
 
 
 def _largest_first(pairs):
-    return sorted(pairs, key=lambda it: (-it[1].all, -it[1].alone))
+    return sorted(pairs, key=lambda pair: (-pair[1].all, -pair[1].alone))
 
 
 def usage_of_roots(store: Store, kept: dict[str, list[str]]) -> list[tuple[Root, Usage]]:

@@ -57,7 +57,7 @@ def limits() -> Iterator[int]:
             # (a container sees its own group as the first one, "")
             for at in (at for at in range(len(own) + 1) if own[at:at + 1] in ("/", "")):
                 with contextlib.suppress(OSError), open(f"{CGROUPS}/{place}{own[:at]}/{name}") as limit:
-                    yield from (int(it) for it in limit.read().split() if it.isdigit())
+                    yield from (int(word) for word in limit.read().split() if word.isdigit())
 
 
 def machine() -> int:
@@ -81,10 +81,10 @@ def resident(process: int | str = "self") -> int:
 def highest(process: int) -> int:
     """The most bytes of memory that a process has had. Raises OSError or ValueError for one that has ended."""
     with open(f"/proc/{process}/status", encoding="ascii", errors="replace") as file:
-        found = [int(line.split()[1]) << 10 for line in file if line.startswith("VmHWM:")]
-    if not found:
+        peaks = [int(line.split()[1]) << 10 for line in file if line.startswith("VmHWM:")]
+    if not peaks:
         raise ValueError("a process that has ended")
-    return found[0]
+    return peaks[0]
 
 
 def opened_with(limit: int) -> int:

@@ -42,7 +42,7 @@ def write(parts: Iterable[bytes], number: int = 1) -> None:
 
 def printable(text: str) -> str:
     """A text with each character that isn't printable as an escape: a server may have written it, for a terminal."""
-    return "".join(it if it.isprintable() or it == "\n" else ascii(it)[1:-1] for it in text)
+    return "".join(char if char.isprintable() or char == "\n" else ascii(char)[1:-1] for char in text)
 
 
 def shown(parts: Iterable[bytes]) -> Iterator[bytes]:

@@ -38,12 +38,12 @@ def sum_of(path: str, kind: str = "sha256") -> str:
 def tools():
     """The places below a prefix of the programs next to nixkeep and of the Python package that they share, as files and
     links. They lie in one folder, where each finds the package, and bin has a link to each."""
-    programs = [it for it in names_in("tools") if it.startswith("nixkeep-")]
-    modules = [f"nixkeep_tools/{it}" for it in names_in("tools/nixkeep_tools") if it.endswith(".py")]
-    files = [(f"lib/nixkeep/{it}", f"{HERE}/tools/{it}", 0o755) for it in programs]
+    programs = [name for name in names_in("tools") if name.startswith("nixkeep-")]
+    modules = [f"nixkeep_tools/{name}" for name in names_in("tools/nixkeep_tools") if name.endswith(".py")]
+    files = [(f"lib/nixkeep/{name}", f"{HERE}/tools/{name}", 0o755) for name in programs]
     files += [(f"lib/nixkeep/{module}", f"{HERE}/tools/{module}", 0o644) for module in modules]
     files += [("lib/nixkeep/VERSION", f"{HERE}/VERSION", 0o644)]
-    return files, [(f"bin/{it}", f"../lib/nixkeep/{it}") for it in programs]
+    return files, [(f"bin/{name}", f"../lib/nixkeep/{name}") for name in programs]
 
 
 def completion_of(name):
@@ -58,24 +58,24 @@ def parts(file: str) -> tuple[list, list]:
     """What lies below a prefix: files as triples of place, path and mode, and links as pairs of place and target."""
     files, links = tools()
     files = [(f"bin/{program.NAME}", file, 0o755), *files]
-    pages = [it for it in names_in("man") if re.search(r"\.[1-8]$", it)]
+    pages = [name for name in names_in("man") if re.search(r"\.[1-8]$", name)]
     files += [(f"share/man/man{page[-1]}/{page}", f"{HERE}/man/{page}", 0o644) for page in pages]
-    shells = [(completion_of(it), f"{HERE}/completion/{it}", 0o644) for it in names_in("completion")]
-    return files + [it for it in shells if it[0]], links
+    shells = [(completion_of(name), f"{HERE}/completion/{name}", 0o644) for name in names_in("completion")]
+    return files + [entry for entry in shells if entry[0]], links
 
 
 def documents() -> list[tuple]:
     """The documents of a package, below its folder of documents."""
     pages = ["README.md", "CHANGELOG.md", "SECURITY.md"]
-    names = [*pages, *[f"docs/{it}" for it in names_in("docs")], *examples("examples")]
-    return [(it, f"{HERE}/{it}") for it in names if Path(f"{HERE}/{it}").is_file()]
+    names = [*pages, *[f"docs/{name}" for name in names_in("docs")], *examples("examples")]
+    return [(name, f"{HERE}/{name}") for name in names if Path(f"{HERE}/{name}").is_file()]
 
 
 def examples(folder):
     """The files below a folder that git doesn't leave out."""
     paths = []
     for at, folders, names in os.walk(f"{HERE}/{folder}"):
-        folders[:] = sorted(it for it in folders if it not in ("out", "__pycache__"))
+        folders[:] = sorted(name for name in folders if name not in ("out", "__pycache__"))
         paths += [str(Path(f"{at}/{name}").relative_to(HERE)) for name in sorted(names)]
     return paths
 
@@ -83,7 +83,7 @@ def examples(folder):
 def sources() -> str:
     """The sums of all files that the proof of the program has read, as sha256sum writes and checks them."""
     crates = program.with_below(program.NAME, program.listed())
-    paths = ["HANDLES", "crates.txt", *[it for crate in crates for it in program.files_of(crate)]]
+    paths = ["HANDLES", "crates.txt", *[path for crate in crates for path in program.files_of(crate)]]
     return "".join(f"{sum_of(f'{HERE}/{path}')}  {path}\n" for path in paths)
 
 

@@ -46,11 +46,11 @@ def with_below(crate: str, named: dict[str, list]) -> list[str]:
     """The crates of this repository below one, lowest first, and itself."""
     crates = {}
 
-    def visit(it):
-        if it in named and it not in crates:
-            for library in named[it]:
+    def visit(below):
+        if below in named and below not in crates:
+            for library in named[below]:
                 visit(library)
-            crates[it] = None
+            crates[below] = None
 
     visit(crate)
     return [*crates]
@@ -123,8 +123,8 @@ def sources(named, tops=(NAME,)):
     """A sum for each of these crates and those below them, lowest first, of its sources and of theirs."""
     sums = {}
     handles = Path(f"{HERE}/HANDLES").read_text()
-    for crate in dict.fromkeys(it for top in tops for it in with_below(top, named)):
-        read = hashlib.sha256(repr((handles, named[crate], [sums.get(it) for it in named[crate]])).encode())
+    for crate in dict.fromkeys(below for top in tops for below in with_below(top, named)):
+        read = hashlib.sha256(repr((handles, named[crate], [sums.get(library) for library in named[crate]])).encode())
         for path in files_of(crate):
             with open(f"{HERE}/{path}", "rb", buffering=0) as file:
                 data = file.read()
@@ -231,7 +231,7 @@ def prove(tops: Iterable[str], why: str | None = None) -> bool:
         sys.exit(f"{NAME}: {why}, and can't be proved here: {fault}" if why else f"{NAME}: {fault}")
     from nixkeep_dev.build import proving
     with alone():
-        left = [it for it in sums if not is_kept(it, sums[it], by)]
+        left = [crate for crate in sums if not is_kept(crate, sums[crate], by)]
         if left:
             reason = f" ({why})" if why else ""
             say(f"proving {len(left)} of {len(sums)} crates{reason}; CONTRIBUTING.md says how long that takes")

@@ -109,7 +109,7 @@ def guess(crate, below):
     memory = 900_000_000 + 500_000 * code + 50_000 * proofs + 60_000_000 * len(below)
     if crate == program.NAME:
         # (the program is linked and compiled whole)
-        return 0.014 * sum(lines(it)[0] for it in below), 4_500_000_000
+        return 0.014 * sum(lines(library)[0] for library in below), 4_500_000_000
     return max(10, 0.2 * code + 0.011 * proofs + 4.9 * len(below) - 37), memory
 
 
@@ -126,7 +126,7 @@ class Plan:
         # The work from the start of a crate to the end of all, on the longest way. Crates come lowest first.
         self.chain = {}
         for crate in reversed(crates):
-            above = [self.chain[it] for it in self.chain if crate in named[it]]
+            above = [self.chain[other] for other in self.chain if crate in named[other]]
             self.chain[crate] = self.work[crate] + max(above, default=0)
 
     def needs(self, crate: str, jobs: int) -> float:
@@ -141,7 +141,7 @@ class Plan:
 
 def lines(crate):
     """How many lines of code and of statements and proofs a crate has."""
-    texts = [(it, Path(program.HERE, it).read_bytes()) for it in program.files_of(crate)]
+    texts = [(path, Path(program.HERE, path).read_bytes()) for path in program.files_of(crate)]
     return [sum(text.count(b"\n") for name, text in texts if name.endswith(kind)) for kind in (".rt", ".antt")]
 
 
@@ -162,8 +162,8 @@ class Shown:
 
     def minutes(self) -> int:
         """How many minutes are likely to be left, by what the crates until now took of what was planned for them."""
-        work = {it: self.plan.work[it] * self.part_left(it) for it in self.left}
-        chain = max((self.plan.chain[it] - self.plan.work[it] + work[it] for it in self.left), default=0)
+        work = {crate: self.plan.work[crate] * self.part_left(crate) for crate in self.left}
+        chain = max((self.plan.chain[crate] - self.plan.work[crate] + work[crate] for crate in self.left), default=0)
         alone = work.get(program.NAME, 0)
         longest = max(sum(work.values()) / processors() / 0.9, (chain - alone) / 2.5 + alone)
         return max(1, round(self.slow() * longest / 60))
@@ -213,8 +213,8 @@ class Schedule:
     """Which crate is proved next, and with how many jobs."""
 
     def __init__(self, left, named, plan):
-        self.left = sorted(left, key=lambda it: -plan.chain[it])
-        self.below = {it: {*program.with_below(it, named)} for it in left}
+        self.left = sorted(left, key=lambda crate: -plan.chain[crate])
+        self.below = {crate: {*program.with_below(crate, named)} for crate in left}
         self.plan, self.running, self.memory = plan, {}, 0.85 * program.free()
         # A crate has times in which one process alone works, so there are more jobs than processors.
         self.lanes = 2 * processors()
@@ -222,7 +222,7 @@ class Schedule:
     def ready(self) -> list[str]:
         """The crates that can start, first those with the longest chain above them."""
         waited_for = {*self.left, *self.running}
-        return [it for it in self.left if not self.below[it] & waited_for - {it}]
+        return [crate for crate in self.left if not self.below[crate] & waited_for - {crate}]
 
     def jobs(self, crate: str, ready: int) -> int:
         """How many jobs a crate can have now, next to `ready` that are ready too; none where it has to wait. More than
@@ -230,9 +230,9 @@ class Schedule:
         that it can use, and another gets a second one only where too few are ready for the idle processors."""
         idle = self.lanes - sum(self.running.values())
         room = self.memory - sum(self.plan.needs(*item) for item in self.running.items())
-        is_first = all(self.plan.chain[crate] > self.plan.chain[it] for it in self.running)
+        is_first = all(self.plan.chain[crate] > self.plan.chain[other] for other in self.running)
         most = min(MOST if is_first else 2 if idle // ready > 2 else 1, processors(), idle)
-        fitting = [it for it in range(1, most + 1) if self.plan.needs(crate, it) <= room]
+        fitting = [count for count in range(1, most + 1) if self.plan.needs(crate, count) <= room]
         return max(fitting, default=int(not self.running))
 
     def next(self) -> tuple[str, int] | None:
@@ -271,7 +271,7 @@ class Proving:
 
     def start(self, pool: ThreadPoolExecutor) -> set[Future]:
         """Starts what can start now."""
-        return {pool.submit(self.prove, *it) for it in iter(self.schedule.next, None)}
+        return {pool.submit(self.prove, *task) for task in iter(self.schedule.next, None)}
 
     def run(self) -> None:
         """Proves all, and returns when what is proved is kept."""
@@ -281,16 +281,16 @@ class Proving:
                 running = self.start(pool)
                 while running:
                     ended, running = wait(running, return_when=FIRST_COMPLETED)
-                    for it in sorted(ended, key=lambda it: it.exception() is not None):
-                        crate, *taken = it.result()
+                    for future in sorted(ended, key=lambda future: future.exception() is not None):
+                        crate, *taken = future.result()
                         kept.append(keeper.submit(self.keep, crate, *taken))
                         del self.schedule.running[crate]
                     running |= self.start(pool)
             finally:
                 self.runs.end()
                 self.shown.close()
-        for it in kept:
-            it.result()
+        for future in kept:
+            future.result()
 
 
 def sweep():
@@ -319,19 +319,19 @@ def stops_cleanly():
         program.say("stopped; what is proved is kept, and the next run goes on from there")
         sys.exit(128 + number)
 
-    old = {it: signal.signal(it, stop) for it in (signal.SIGINT, signal.SIGTERM, signal.SIGHUP)}
+    old = {number: signal.signal(number, stop) for number in (signal.SIGINT, signal.SIGTERM, signal.SIGHUP)}
     try:
         yield
     finally:
-        for it, handler in old.items():
-            signal.signal(it, handler)
+        for number, handler in old.items():
+            signal.signal(number, handler)
 
 
 def prove_all(left: list[str], digests: dict[str, str], named: dict[str, list], by: str) -> None:
     """Proves the crates that are left, lowest first, and builds what they make. All crates have digests."""
     if shutil.disk_usage(ROOMS).free < ROOM:
         program.say(f"note: this takes {ROOM / 1e9:.0f} GB in {ROOMS}, which has less; TMPDIR names another folder")
-    kept = {below for it in left for below in program.with_below(it, named)} - {*left}
+    kept = {below for crate in left for below in program.with_below(crate, named)} - {*left}
     with stops_cleanly(), room_with(kept) as room:
         try:
             Proving(left, digests, named, by, room).run()

@@ -73,7 +73,7 @@ def facts():
 def figures_of(name, more, given, flags, folder):
     """The figures of one run of a benchmark; None where it didn't end."""
     file, records = f"{HERE}/bench/{name}.py", Path(f"{folder}/{name}.json")
-    flags = [it for it in flags if options_of(file, {it[2:]: ""})]
+    flags = [flag for flag in flags if options_of(file, {flag[2:]: ""})]
     subprocess.run(command([file, *options_of(file, {**given, "records": records}), *flags, *more]))
     figures = json.loads(records.read_text()) if records.exists() else None
     records.unlink(missing_ok=True)
@@ -114,11 +114,12 @@ def more(parser):
 
 def show_end(made, failed, last):
     """Prints which limits are missed, and what is worse than the last figures; returns whether all is well."""
-    judged = [(name, it) for name, of in made.items() for it in of["figures"] if it.get("is_met") is not None]
-    missed = [(name, it) for name, it in judged if not it["is_met"]]
+    judged = [(name, figure) for name, of in made.items() for figure in of["figures"]
+              if figure.get("is_met") is not None]
+    missed = [(name, figure) for name, figure in judged if not figure["is_met"]]
     print(f"\n{len(judged) - len(missed)} limits met, {len(missed)} missed")
-    for name, it in missed:
-        print(f"missed: bench/{name}, {it['section']}: {it['what']}, at a limit of {it['limit']}")
+    for name, figure in missed:
+        print(f"missed: bench/{name}, {figure['section']}: {figure['what']}, at a limit of {figure['limit']}")
     for name in failed:
         print(f"bench/{name} didn't end")
     for line in compared.warnings(made, last):
@@ -128,7 +129,7 @@ def show_end(made, failed, last):
 
 def main() -> int:
     words, measured, failed, made = report.options(__doc__, more), kept(), [], {}
-    if unknown := [it for it in words.names if it not in NAMES]:
+    if unknown := [name for name in words.names if name not in NAMES]:
         sys.exit(f"no benchmark {' '.join(unknown)}: {', '.join(NAMES)}")
     if words.print:
         for name in words.names:
@@ -136,10 +137,10 @@ def main() -> int:
         sys.exit(None if words.names else write_pages(measured))
     if words.quick and words.table:
         sys.exit("a table has the whole number of objects")
-    given = {name: it and str(Path(it).absolute()) for name, it in vars(words).items()
+    given = {name: value and str(Path(value).absolute()) for name, value in vars(words).items()
              if name in ("program", "libraries")}
     words.large |= words.table
-    flags = [f"--{it}" for it in ("quick", "large") if getattr(words, it)]
+    flags = [f"--{name}" for name in ("quick", "large") if getattr(words, name)]
     with tempfile.TemporaryDirectory() as folder:
         for name in words.names or NAMES:
             print(f"\n==== {name}", flush=True)
@@ -153,7 +154,7 @@ def main() -> int:
             made[name] = {"facts": facts(), "figures": sum(filter(None, figures), [])}
     is_good = show_end(made, failed, {} if words.quick else measured)
     if words.table:
-        keep({**measured, **{name: it for name, it in made.items() if name in STORED}})
+        keep({**measured, **{name: result for name, result in made.items() if name in STORED}})
     return 0 if is_good else 1
 
 

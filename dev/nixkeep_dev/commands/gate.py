@@ -77,7 +77,7 @@ class Watch:
     def minutes(self) -> dict[str, collections.Counter]:
         """Minutes by crate and kind."""
         by_crate = collections.defaultdict(collections.Counter)
-        for crate, kind, ticks in [(*self.work[key], it) for key, it in self.ticks.items() if self.work[key]]:
+        for crate, kind, ticks in [(*self.work[key], count) for key, count in self.ticks.items() if self.work[key]]:
             by_crate[crate][kind] += ticks / TICKS / 60
         return by_crate
 
@@ -115,8 +115,8 @@ def try_parts():
 
 
 def show_table(by_crate, cases, whole, since):
-    rows = sorted(by_crate.items(), key=lambda it: -sum(it[1].values()))
-    print(f"\n{'processor minutes':22}" + "".join(f"{it:>8}" for it in (*KINDS, "all")))
+    rows = sorted(by_crate.items(), key=lambda row: -sum(row[1].values()))
+    print(f"\n{'processor minutes':22}" + "".join(f"{kind:>8}" for kind in (*KINDS, "all")))
     for crate, row in rows:
         print(f"{crate:22}" + "".join(f"{row[kind]:8.1f}" for kind in KINDS) + f"{sum(row.values()):8.1f}")
     other = whole - cases - sum(sum(row.values()) for row in by_crate.values())

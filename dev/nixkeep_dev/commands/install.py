@@ -67,7 +67,7 @@ def delete(prefix, places):
 
 def folders_of(place):
     """The folders of a place, each below the prefix."""
-    return [str(it) for it in Path(place).parents[:-1]]
+    return [str(parent) for parent in Path(place).parents[:-1]]
 
 
 def remove(prefix):
@@ -83,7 +83,7 @@ def install(prefix, file):
     """Installs all, and returns the places of what can be run."""
     files, links = layout.parts(file)
     places = [place for place, *_ in [*files, *links]]
-    delete(prefix, [it for it in listed(prefix) or [] if it not in places])
+    delete(prefix, [place for place in listed(prefix) or [] if place not in places])
     put(f"{prefix}/{LIST}", functools.partial(write_list, places=places))
     for place, path, mode in files:
         put(f"{prefix}/{place}", functools.partial(copy, path, mode))

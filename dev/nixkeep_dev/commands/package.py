@@ -95,16 +95,17 @@ def files_below(top):
 
 def libc_of(file):
     """The lowest version of the C library that has all that a program names of it."""
-    versions = {tuple(map(int, it.split(b"."))) for it in re.findall(rb"\0GLIBC_([0-9.]+)\0", layout.content(file))}
+    versions = {tuple(map(int, version.split(b".")))
+                for version in re.findall(rb"\0GLIBC_([0-9.]+)\0", layout.content(file))}
     return ".".join(map(str, max(versions, default=(2, 34))))
 
 
 def put_control(top, file):
-    size = sum(os.lstat(f"{top}/{it}").st_size for it in files_below(top))
+    size = sum(os.lstat(f"{top}/{name}").st_size for name in files_below(top))
     text = Path(f"{HERE}/packaging/control").read_text().format(version=layout.version(), size=(size + 1023) // 1024,
                                                                 libc=libc_of(file))
-    plain = [it for it in files_below(top) if it.startswith("usr/") and not Path(f"{top}/{it}").is_symlink()]
-    sums = "".join(f"{layout.sum_of(f'{top}/{it}', 'md5')}  {it}\n" for it in plain)
+    plain = [name for name in files_below(top) if name.startswith("usr/") and not Path(f"{top}/{name}").is_symlink()]
+    sums = "".join(f"{layout.sum_of(f'{top}/{name}', 'md5')}  {name}\n" for name in plain)
     put(top, "DEBIAN/control", text.encode())
     put(top, "DEBIAN/conffiles", b"/etc/nixkeep/store.toml\n")
     put(top, "DEBIAN/md5sums", sums.encode())
@@ -114,11 +115,11 @@ def put_control(top, file):
 
 def pack(top, name, to, when):
     """Packs the files as a tape archive, all of root's and of one time, in one order."""
-    def as_root(it):
-        it.uid = it.gid = 0
-        it.uname = it.gname = "root"
-        it.mtime, it.mode = when, 0o755 if it.isdir() else it.mode
-        return it
+    def as_root(entry):
+        entry.uid = entry.gid = 0
+        entry.uname = entry.gname = "root"
+        entry.mtime, entry.mode = when, 0o755 if entry.isdir() else entry.mode
+        return entry
 
     plain = io.BytesIO()
     with tarfile.open(fileobj=plain, mode="w") as file:

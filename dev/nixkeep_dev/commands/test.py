@@ -49,7 +49,7 @@ def say_what_is_missing():
 
 def by_itself(part, known):
     """What of a part runs without a name: of the gate, what proves nothing and needs no program."""
-    return [it for it in known if part != "gate" or it in parts.CHECKS]
+    return [name for name in known if part != "gate" or name in parts.CHECKS]
 
 
 def named(part, names):
@@ -67,7 +67,7 @@ def whole_part(words):
 
 def run_part(words, parser):
     of_crates = {"bodies": bodies.having, "plant": plants.listed}
-    if unknown := [it for it in words.names if words.part in of_crates and it not in of_crates[words.part]()]:
+    if unknown := [name for name in words.names if words.part in of_crates and name not in of_crates[words.part]()]:
         parser.error(f"{words.part}: no crate {' '.join(unknown)}")
     if words.part == "plant" and not words.names:
         parser.error("plant: name a crate")
@@ -77,7 +77,7 @@ def run_part(words, parser):
         return together([run([*whole_part(words), *options_of(whole_part(words)[0], given)], limit=ALONE)],
                         may_skip=not words.no_skips)
     known = parts.by_name()[words.part]
-    if unknown := [it for it in words.names if it not in known]:
+    if unknown := [name for name in words.names if name not in known]:
         parser.error(f"no {' '.join(unknown)} in {words.part}: {', '.join(known)}")
     runs = []
     for name in words.names or by_itself(words.part, known):
@@ -90,12 +90,12 @@ def run_without_toolchain(words):
     """All that needs no toolchain, side by side."""
     file = report.program_file(words)
     given = {"program": file, "seed": words.seed, "count": words.count}
-    tried = [parts.Part(f"gate/{it}", {}) for it in parts.CHECKS] + parts.of_program(given)
+    tried = [parts.Part(f"gate/{name}", {}) for name in parts.CHECKS] + parts.of_program(given)
     runs = parts.side_by_side(tried)
-    names = ", ".join(it.name for it, ran in zip(tried, runs) if not ran)
+    names = ", ".join(part.name for part, ran in zip(tried, runs) if not ran)
     left_out = [f"proofs, wrong bodies, {names}: they need the Rattle toolchain, and `bin/test all` runs them",
                 "a clean Debian and a booted machine take minutes: `bin/test package` and `bin/test team units`"]
-    return together([it for it in runs if it], left_out=left_out, may_skip=not words.no_skips)
+    return together([ran for ran in runs if ran], left_out=left_out, may_skip=not words.no_skips)
 
 
 def run_all(words):

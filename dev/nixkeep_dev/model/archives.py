@@ -14,7 +14,7 @@ DEPTH = 256
 
 def spell(*strings: bytes) -> bytes:
     """Each string as an archive has it: its length in 8 bytes, least first, its bytes, and zeros to a multiple of 8."""
-    return b"".join(len(it).to_bytes(8, "little") + it + bytes(-len(it) % 8) for it in strings)
+    return b"".join(len(string).to_bytes(8, "little") + string + bytes(-len(string) % 8) for string in strings)
 
 
 class Reader:
@@ -127,7 +127,7 @@ def plain_contents(node: tuple) -> bytes | None:
 
 
 def shown(text: bytes) -> str:
-    return "".join(chr(it) if 33 <= it <= 126 and it != 92 else f"\\x{it:02x}" for it in text)
+    return "".join(chr(byte) if 33 <= byte <= 126 and byte != 92 else f"\\x{byte:02x}" for byte in text)
 
 
 def listing(node: tuple, path: str = ".") -> str:

@@ -12,7 +12,7 @@ SHOWN = r"sed 's/\r/\\r/g'"
 
 def printf(data):
     """A command that writes these bytes."""
-    shown = "".join(chr(it) if 32 <= it < 127 and it not in b"'%\\" else escape(it) for it in data)
+    shown = "".join(chr(byte) if 32 <= byte < 127 and byte not in b"'%\\" else escape(byte) for byte in data)
     return f"printf '{shown}'"
 
 
@@ -75,7 +75,7 @@ def rows_text(rows, others):
     """Steps that show the rows of those tables in which two databases differ."""
     for name, (_, key, _) in tables.TABLES.items():
         if rows.get(name) != others.get(name):
-            places = [tables.columns_of(name).index(it) for it in key.split(", ")]
+            places = [tables.columns_of(name).index(column) for column in key.split(", ")]
             ordered = sorted(rows.get(name, ()), key=lambda row: [row[at] for at in places])
             lines = "".join(",".join(map(literal, row)) + "\n" for row in ordered)
             command = f"sqlite3 -quote {FILE} 'SELECT * FROM {name} ORDER BY {key}'"
@@ -107,6 +107,6 @@ def came_text(scenario: Scenario, difference: tuple) -> str:
     if at == len(scenario.steps):
         texts = ["\n".join(rows_text(*pair)) for pair in ((wanted, came), (came, wanted))]
     else:
-        texts = [run_text(scenario.steps[at], it) for it in (wanted, came)]
+        texts = [run_text(scenario.steps[at], run) for run in (wanted, came)]
     lines = [text.splitlines() for text in texts]
     return "\n".join(difflib.unified_diff(*lines, "wanted", "came", lineterm="", n=5)) + "\n"

@@ -21,7 +21,7 @@ class Text:
         match = STRING.match(self.data, self.at)
         refuse(17, not match)
         self.at = match.end()
-        return re.sub(rb"\\.", lambda it: ESCAPES[it[0]], match[1])
+        return re.sub(rb"\\.", lambda escape: ESCAPES[escape[0]], match[1])
 
     def list_of(self, item):
         self.skip(b"[")
@@ -93,5 +93,5 @@ def write(outs: list, inputs: Iterable = (), sources: Iterable = (), platform: b
         quoted(platform),
         quoted(builder),
         listed(map(quoted, args)),
-        listed(tupled(*map(quoted, it)) for it in env),
+        listed(tupled(*map(quoted, pair)) for pair in env),
     )

@@ -65,30 +65,31 @@ def targets():
 TARGET = targets()
 
 
-def lines_of(it: SimpleNamespace) -> list[str]:
+def lines_of(request: SimpleNamespace) -> list[str]:
     """The lines of the body of a request."""
-    if it.kind in ("add-text", "add-source"):
-        return [f"name: {it.name}", *(f"reference: {path}" for path in it.references)]
-    if it.kind == "import":
-        lines = [f"path: {it.path}", f"nar-hash: {it.digest}", *(f"reference: {path}" for path in it.references)]
-        lines += [f"deriver: {it.deriver}"] * (it.deriver is not None)
-        return lines + [f"ca: {it.address}"] * (it.address is not None)
-    if it.kind == "replace-runtime":
-        return [f"root: {label} {path}" for label, path in it.pairs]
-    if it.kind in ("collect", "delete"):
-        lines = [f"ignore-liveness: {it.ignore}"] * (it.ignore is not None)
-        if it.kind == "delete":
-            return lines + [f"path: {path}" for path in it.paths]
-        return lines + [f"max-freed: {it.limit}"] * (it.limit is not None)
-    has_path = it.kind in ("set-permanent", "set-user-root", "set-profile", "add-temporary")
-    return [f"path: {it.path}"] * has_path
+    if request.kind in ("add-text", "add-source"):
+        return [f"name: {request.name}", *(f"reference: {path}" for path in request.references)]
+    if request.kind == "import":
+        lines = [f"path: {request.path}", f"nar-hash: {request.digest}",
+                 *(f"reference: {path}" for path in request.references)]
+        lines += [f"deriver: {request.deriver}"] * (request.deriver is not None)
+        return lines + [f"ca: {request.address}"] * (request.address is not None)
+    if request.kind == "replace-runtime":
+        return [f"root: {label} {path}" for label, path in request.pairs]
+    if request.kind in ("collect", "delete"):
+        lines = [f"ignore-liveness: {request.ignore}"] * (request.ignore is not None)
+        if request.kind == "delete":
+            return lines + [f"path: {path}" for path in request.paths]
+        return lines + [f"max-freed: {request.limit}"] * (request.limit is not None)
+    has_path = request.kind in ("set-permanent", "set-user-root", "set-profile", "add-temporary")
+    return [f"path: {request.path}"] * has_path
 
 
 class Messages(Requests):
     """Makes HTTP messages."""
 
-    def body(self, it: SimpleNamespace) -> bytes:
-        lines, payload = [line.encode() for line in lines_of(it)], getattr(it, "payload", b"")
+    def body(self, request: SimpleNamespace) -> bytes:
+        lines, payload = [line.encode() for line in lines_of(request)], getattr(request, "payload", b"")
         if "spoiled line" in self.faults:
             self.spoil(lines)
         if not lines and not payload and not self.form.chance(0.3):
@@ -110,21 +111,21 @@ class Messages(Requests):
             line = lines[at]
             lines[at] = self.form.pick([line.upper(), line.replace(b": ", b":"), line + b"\r", b" " + line])
 
-    def target(self, it: SimpleNamespace) -> tuple[str, str]:
-        method, route = TARGET[it.kind]
-        fields = {name: getattr(it, name, None) or "" for name in ("owner", "name", "number", "session")}
-        path = getattr(it, "path", "")
+    def target(self, request: SimpleNamespace) -> tuple[str, str]:
+        method, route = TARGET[request.kind]
+        fields = {name: getattr(request, name, None) or "" for name in ("owner", "name", "number", "session")}
+        path = getattr(request, "path", "")
         fields["path"] = path if "store directory" in self.faults else path.removeprefix(self.dir + "/")
         return method, route.format(**fields).replace(" ", "%20").replace("\t", "%09")
 
-    def fields(self, it: SimpleNamespace, body: bytes) -> list[str]:
+    def fields(self, request: SimpleNamespace, body: bytes) -> list[str]:
         """The lines of a head, each in some form."""
         zeros = self.form.pick(["", "", "", "", "0", "000000000000"])
-        pairs = [("store-user", it.user)] * ("no user" not in self.faults)
-        pairs += [("store-group", it.group)] * (it.group is not None)
+        pairs = [("store-user", request.user)] * ("no user" not in self.faults)
+        pairs += [("store-group", request.group)] * (request.group is not None)
         pairs += [("content-length", zeros + str(len(body)))] * (body != b"" or self.form.chance(0.1))
         if "connection" in self.faults:
-            pairs += [("connection", it) for it in self.form.some(CONNECTIONS, 2)]
+            pairs += [("connection", value) for value in self.form.some(CONNECTIONS, 2)]
         case, before, after = self.form.pick(FIELD_FORMS) if self.form.chance(0.7) else FIELD_FORMS[0]
         lines = [f"{case(name)}:{before}{value}{after}" for name, value in pairs]
         lines += self.form.some(FIELDS, 3) if self.form.chance(0.3) else []
@@ -132,34 +133,34 @@ class Messages(Requests):
             lines += self.form.pick([["store-user: ann"], ["store-group: users", "store-group: users"]])
         return self.form.turned(lines)
 
-    def head(self, it: SimpleNamespace, body: bytes) -> str:
-        method, target = self.target(it)
+    def head(self, request: SimpleNamespace, body: bytes) -> str:
+        method, target = self.target(request)
         if "method" in self.faults:
             method = self.form.pick(METHODS)
         if "target" in self.faults:
             target = self.form.pick(TARGETS)
         blank = self.form.pick(["\r\n", "\n", "\r\n\r\n"]) if "blank lines" in self.faults else ""
-        lines = self.fields(it, body)
+        lines = self.fields(request, body)
         if "many fields" in self.faults:
             lines += ["x: y"] * self.form.pick([64 - len(lines), 65 - len(lines)])
         version = "HTTP/1.0" if "version" in self.faults else "HTTP/1.1"
         line_end = "\n" if self.form.chance(0.1) else "\r\n"
         return blank + line_end.join([f"{method} {target} {version}", *lines, "", ""])
 
-    def long_head(self, it):
+    def long_head(self, request):
         """A head of the greatest length, or of one byte more."""
-        head = f"GET /paths HTTP/1.1\r\nstore-user: {it.user}\r\nx: "
+        head = f"GET /paths HTTP/1.1\r\nstore-user: {request.user}\r\nx: "
         return head + "y" * (server.HEAD + self.form.number(2) - len(head) - 4) + "\r\n\r\n"
 
     def message(self, drawn: Drawn, kind: str | None = None) -> bytes:
         """The bytes of a message, which most often carries a request of this kind, or else of one by choice."""
-        it = self.request(drawn, kind)
+        request = self.request(drawn, kind)
         if "no head" in self.faults:
             return self.form.pick(HEADS).encode("latin-1")
         if "long head" in self.faults:
-            return self.long_head(it).encode()
-        body = self.body(it)
-        head = self.head(it, body)
+            return self.long_head(request).encode()
+        body = self.body(request)
+        head = self.head(request, body)
         if "length" in self.faults:
             head = head.replace("\r\n", f"\r\n{self.form.pick(LENGTHS)}\r\n", 1)
         return head.encode() + body
@@ -168,35 +169,35 @@ class Messages(Requests):
 class Commands(Messages):
     """Makes command lines: the words after the common options, and standard input."""
 
-    def words(self, it: SimpleNamespace) -> list[str]:
+    def words(self, request: SimpleNamespace) -> list[str]:
         """The words of a request."""
-        named, is_joined = getattr(it, "owner", None), self.form.chance(0.5)
-        is_named = named is not None and (named != it.user or self.form.chance(0.2))
+        named, is_joined = getattr(request, "owner", None), self.form.chance(0.5)
+        is_named = named is not None and (named != request.user or self.form.chance(0.2))
         owner = ([f"--owner={named}"] if is_joined else ["--owner", named]) * is_named
         made = {
-            "add-text": lambda: ["add-text", it.name, *it.references],
-            "add-source": lambda: ["add-source", it.name, *it.references],
+            "add-text": lambda: ["add-text", request.name, *request.references],
+            "add-source": lambda: ["add-source", request.name, *request.references],
             "import": lambda: ["import"],
             "replace-runtime": lambda: ["runtime"],
-            "info": lambda: ["info", it.path],
-            "archive": lambda: ["cat-nar", it.path],
-            "listing": lambda: ["info", it.path],
-            "roots-of": lambda: ["why", it.path],
-            "set-permanent": lambda: ["root", "--permanent", it.name, it.path],
-            "drop-permanent": lambda: ["unroot", "--permanent", it.name],
-            "set-user-root": lambda: ["root", it.name, it.path],
-            "drop-user-root": lambda: ["unroot", *owner, it.name],
-            "set-profile": lambda: ["profile", *owner, "set", it.name, it.path],
-            "rollback": lambda: ["profile", *owner, "rollback", it.name],
-            "switch": lambda: ["profile", *owner, "switch", it.name, it.number],
-            "delete-generation": lambda: ["profile", *owner, "delete", it.name, it.number],
-            "add-temporary": lambda: ["temp", *owner, "add", it.session, it.path],
-            "end-session": lambda: ["temp", *owner, "end", it.session],
-            "collect": lambda: ["gc", *(["--max-freed", it.limit] if it.limit is not None else [])],
-            "delete": lambda: ["delete", *it.paths],
+            "info": lambda: ["info", request.path],
+            "archive": lambda: ["cat-nar", request.path],
+            "listing": lambda: ["info", request.path],
+            "roots-of": lambda: ["why", request.path],
+            "set-permanent": lambda: ["root", "--permanent", request.name, request.path],
+            "drop-permanent": lambda: ["unroot", "--permanent", request.name],
+            "set-user-root": lambda: ["root", request.name, request.path],
+            "drop-user-root": lambda: ["unroot", *owner, request.name],
+            "set-profile": lambda: ["profile", *owner, "set", request.name, request.path],
+            "rollback": lambda: ["profile", *owner, "rollback", request.name],
+            "switch": lambda: ["profile", *owner, "switch", request.name, request.number],
+            "delete-generation": lambda: ["profile", *owner, "delete", request.name, request.number],
+            "add-temporary": lambda: ["temp", *owner, "add", request.session, request.path],
+            "end-session": lambda: ["temp", *owner, "end", request.session],
+            "collect": lambda: ["gc", *(["--max-freed", request.limit] if request.limit is not None else [])],
+            "delete": lambda: ["delete", *request.paths],
         }
-        words = made.get(it.kind, lambda: [it.kind])()
-        if it.kind in ("collect", "delete") and it.ignore == "true":
+        words = made.get(request.kind, lambda: [request.kind])()
+        if request.kind in ("collect", "delete") and request.ignore == "true":
             words.insert(1, "--ignore-liveness")
         return self.moved(words)
 
@@ -207,9 +208,9 @@ class Commands(Messages):
             return [word for word in words if word not in flags] + flags
         return [*words[:-1], "--", words[-1]] if self.form.chance(0.02) else words
 
-    def input(self, it: SimpleNamespace) -> bytes:
+    def input(self, request: SimpleNamespace) -> bytes:
         """The standard input of a command."""
-        return self.body(it) if it.kind in ("import", "replace-runtime") else getattr(it, "payload", b"")
+        return self.body(request) if request.kind in ("import", "replace-runtime") else getattr(request, "payload", b"")
 
     def odd_words(self, words: list[str], by: Choices) -> list[str]:
         """The words with one change that most often makes them no command line."""
@@ -243,8 +244,8 @@ class Commands(Messages):
             words, given = self.stateless(drawn)
             user, group = drawn.aim.pick(USERS), drawn.aim.pick([None, "users"])
         else:
-            it = self.request(drawn, self.kind(drawn, ADDS) if drawn.aim.chance(0.3) else None)
-            words, given, user, group = self.words(it), self.input(it), it.user, it.group
+            request = self.request(drawn, self.kind(drawn, ADDS) if drawn.aim.chance(0.3) else None)
+            words, given, user, group = self.words(request), self.input(request), request.user, request.group
         if self.form.chance(0.04):
             words = self.odd_words(words, self.form)
         return [*self.common(user, group, self.form), *words], given

@@ -152,7 +152,7 @@ class Requests(Values):
     def limit(self, by: Choices) -> str:
         """A number of bytes, most often near what some dead paths have together."""
         dead, which = sorted(self.store.world.dead(self.store.config)), by.number(65_536)
-        size = sum(len(self.store.world.objects[it].archive) for at, it in enumerate(dead) if which >> at % 16 & 1)
+        size = sum(len(self.store.world.objects[base].archive) for at, base in enumerate(dead) if which >> at % 16 & 1)
         return self.written([max(size + by.pick([0, -1, 1]), 0)] * 6 + [0, 1, 2**64 - 1], by, ODD_LIMITS)
 
     def fill_add(self, made, drawn):
@@ -225,7 +225,8 @@ class Requests(Values):
             return world.profiles
         if kind == "end-session":
             return {(owner, str(session)) for owner, session, _ in world.temporary}
-        return {"drop-user-root": world.user, "drop-permanent": [(None, it) for it in world.permanent]}.get(kind, ())
+        return {"drop-user-root": world.user,
+                "drop-permanent": [(None, name) for name in world.permanent]}.get(kind, ())
 
     def aim_at(self, made, number, generations, by):
         """Names a generation that is there, or the path of one."""

@@ -83,7 +83,7 @@ class Scenarios(Commands):
 
     def stream_step(self, scenario: Scenario, adds: Sequence, others: Sequence[Sequence], end: bytes) -> Step:
         """A server of a stream of messages, of which the first are adds."""
-        drawn = [(drawn_of(it), ADDS) for it in adds] + [(drawn_of(it), ()) for some in others for it in some]
+        drawn = [(drawn_of(kind), ADDS) for kind in adds] + [(drawn_of(kind), ()) for some in others for kind in some]
         by = Choices(end)
         config, words = self.config_words(scenario.configs, by)
         self.follow(config)
@@ -152,10 +152,10 @@ class Scenarios(Commands):
         world = self.store.world = worlds.World()
         for aim, data in objects:
             self.put(world, Choices(aim), Choices(data))
-        for base, it in [*world.objects.items()]:
-            if it.address is None:
-                known = frozenset(nearest(number, world.objects) for number in it.references)
-                world.objects[base] = it._replace(references=known)
+        for base, stored in [*world.objects.items()]:
+            if stored.address is None:
+                known = frozenset(nearest(number, world.objects) for number in stored.references)
+                world.objects[base] = stored._replace(references=known)
         if by.chance(0.4):
             self.put_ring(world, by)
         for each in roots if world.objects else []:
@@ -190,7 +190,7 @@ class Scenarios(Commands):
 
     def put_ring(self, world, by):
         """Makes some objects refer to one another in a ring; now and then there are no others."""
-        ring = by.turned([base for base, it in world.objects.items() if it.address is None])[: by.number(2) + 2]
+        ring = by.turned([base for base, stored in world.objects.items() if stored.address is None])[: by.number(2) + 2]
         for base, after in zip(ring, ring[1:] + ring[:1]):
             world.objects[base] = world.objects[base]._replace(references=frozenset([after]))
         if by.chance(0.4):
@@ -226,14 +226,14 @@ class Scenarios(Commands):
         if by.chance(0.7):
             at = by.number(len(row))
             new = (*row[:at], self.changed(row[at], self.column(name, at), by), *row[at + 1 :])
-            if not any(self.has_key(name, new, it) for it in rows[name]):
+            if not any(self.has_key(name, new, other) for other in rows[name]):
                 rows[name] = rows[name] | {new}
 
     def column(self, name, at):
         return tables.TABLES[name][0].split(", ")[at].split(" ")[1]
 
     def has_key(self, name, row, other):
-        key = [tables.columns_of(name).index(it) for it in tables.TABLES[name][1].split(", ")]
+        key = [tables.columns_of(name).index(column) for column in tables.TABLES[name][1].split(", ")]
         return [row[at] for at in key] == [other[at] for at in key]
 
     def changed(self, value: object, kind: str, by: Choices) -> object:

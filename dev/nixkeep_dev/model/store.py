@@ -105,35 +105,36 @@ def checked_text(contents: bytes) -> bytes:
     return archives.file_archive(contents)
 
 
-def add_text(store, it, _):
-    few_references(it.references)
-    archive = checked_text(it.contents)
-    address = "text:sha256:" + texts.base32(texts.sha256(it.contents))
-    base = texts.text_path(store.dir, it.name, it.references, it.contents)
-    return store.add(base, archive, it.references, address=address)
+def add_text(store, request, _):
+    few_references(request.references)
+    archive = checked_text(request.contents)
+    address = "text:sha256:" + texts.base32(texts.sha256(request.contents))
+    base = texts.text_path(store.dir, request.name, request.references, request.contents)
+    return store.add(base, archive, request.references, address=address)
 
 
-def add_source(store, it, _):
-    few_references(it.references)
-    archives.read(it.archive)
-    address = "fixed:r:sha256:" + texts.base32(texts.sha256(it.archive))
-    base = texts.source_path(store.dir, it.name, it.references, it.archive)
-    return store.add(base, it.archive, it.references, address=address)
+def add_source(store, request, _):
+    few_references(request.references)
+    archives.read(request.archive)
+    address = "fixed:r:sha256:" + texts.base32(texts.sha256(request.archive))
+    base = texts.source_path(store.dir, request.name, request.references, request.archive)
+    return store.add(base, request.archive, request.references, address=address)
 
 
-def add_import(store, it, _):
-    few_references(it.references)
-    archives.read(it.archive)
-    refuse(25, texts.sha256(it.archive) != it.digest)
-    return store.add(it.path, it.archive, it.references, it.deriver, it.address, it.address is not None)
+def add_import(store, request, _):
+    few_references(request.references)
+    archives.read(request.archive)
+    refuse(25, texts.sha256(request.archive) != request.digest)
+    return store.add(request.path, request.archive, request.references, request.deriver, request.address,
+                     request.address is not None)
 
 
-def info(store, it, _):
-    stored = store.world.objects[store.valid(it.path)]
+def info(store, request, _):
+    stored = store.world.objects[store.valid(request.path)]
     digest, size = "sha256:" + texts.base32(texts.sha256(stored.archive)), len(stored.archive)
     lines = [
-        ("StorePath", store.full(it.path)),
-        ("URL", f"nar/{it.path}"),
+        ("StorePath", store.full(request.path)),
+        ("URL", f"nar/{request.path}"),
         ("Compression", "none"),
         ("FileHash", digest),
         ("FileSize", size),
@@ -146,31 +147,31 @@ def info(store, it, _):
     return "".join(f"{key}: {value}\n" for key, value in lines if value is not None)
 
 
-def archive_of(store, it, _):
-    return store.world.objects[store.valid(it.path)].archive
+def archive_of(store, request, _):
+    return store.world.objects[store.valid(request.path)].archive
 
 
-def roots_of(store, it, is_trusted):
+def roots_of(store, request, is_trusted):
     reach = store.world.roots_of(store.config)
-    return store.roots_text(reach.get(store.valid(it.path), []), is_trusted)
+    return store.roots_text(reach.get(store.valid(request.path), []), is_trusted)
 
 
-def report(store, it, _):
+def report(store, request, _):
     every, dead = store.world.objects.keys(), store.world.dead(store.config)
     rows = [("live", every - dead), ("dead", dead), ("total", every)]
     sums = [("class", "paths", "bytes"), *((word, len(bases), store.world.size(bases)) for word, bases in rows)]
     return "".join(f"{word:<6} {count:>10} {size:>16}\n" for word, count, size in sums)
 
 
-def set_permanent(store, it, _):
-    plain_names(it.name)
-    store.world.permanent[it.name] = store.valid(it.path)
+def set_permanent(store, request, _):
+    plain_names(request.name)
+    store.world.permanent[request.name] = store.valid(request.path)
     return "done\n"
 
 
-def set_user_root(store, it, _):
-    plain_names(it.owner, it.name)
-    store.world.user[it.owner, it.name] = store.valid(it.path)
+def set_user_root(store, request, _):
+    plain_names(request.owner, request.name)
+    store.world.user[request.owner, request.name] = store.valid(request.path)
     return "done\n"
 
 
@@ -180,14 +181,14 @@ def dropped(roots, key):
     return "done\n"
 
 
-def drop_permanent(store, it, _):
-    plain_names(it.name)
-    return dropped(store.world.permanent, it.name)
+def drop_permanent(store, request, _):
+    plain_names(request.name)
+    return dropped(store.world.permanent, request.name)
 
 
-def drop_user_root(store, it, _):
-    plain_names(it.owner, it.name)
-    return dropped(store.world.user, (it.owner, it.name))
+def drop_user_root(store, request, _):
+    plain_names(request.owner, request.name)
+    return dropped(store.world.user, (request.owner, request.name))
 
 
 def made_current(profile, number):
@@ -195,86 +196,86 @@ def made_current(profile, number):
     return f"generation {number}\n"
 
 
-def set_profile(store, it, _):
-    plain_names(it.owner, it.name)
-    store.valid(it.path)
-    profile = store.world.profiles.get((it.owner, it.name), worlds.Profile({}, 0))
+def set_profile(store, request, _):
+    plain_names(request.owner, request.name)
+    store.valid(request.path)
+    profile = store.world.profiles.get((request.owner, request.name), worlds.Profile({}, 0))
     number = max(profile.generations, default=0)
-    if profile.generations.get(number) != it.path:
+    if profile.generations.get(number) != request.path:
         number += 1
     refuse(32, number > GENERATIONS)
-    profile.generations[number] = it.path
-    store.world.profiles[it.owner, it.name] = profile
+    profile.generations[number] = request.path
+    store.world.profiles[request.owner, request.name] = profile
     return made_current(profile, number)
 
 
-def profile_of(store, it):
-    plain_names(it.owner, it.name)
-    refuse(28, (it.owner, it.name) not in store.world.profiles)
-    return store.world.profiles[it.owner, it.name]
+def profile_of(store, request):
+    plain_names(request.owner, request.name)
+    refuse(28, (request.owner, request.name) not in store.world.profiles)
+    return store.world.profiles[request.owner, request.name]
 
 
-def rollback(store, it, _):
-    profile = profile_of(store, it)
+def rollback(store, request, _):
+    profile = profile_of(store, request)
     older = [number for number in profile.generations if number < profile.current]
     refuse(31, not older)
     return made_current(profile, max(older))
 
 
-def generation_of(store, it):
+def generation_of(store, request):
     """The profile that is named, which has the number that is named."""
-    profile = profile_of(store, it)
-    refuse(29, it.number not in profile.generations)
+    profile = profile_of(store, request)
+    refuse(29, request.number not in profile.generations)
     return profile
 
 
-def delete_generation(store, it, _):
-    profile = generation_of(store, it)
-    refuse(30, it.number == profile.current)
-    del profile.generations[it.number]
+def delete_generation(store, request, _):
+    profile = generation_of(store, request)
+    refuse(30, request.number == profile.current)
+    del profile.generations[request.number]
     return "done\n"
 
 
-def replace_runtime(store, it, _):
-    refuse(35, not all(is_label(label) for label, _ in it.pairs))
-    store.world.runtime = {(label, base) for label, base in it.pairs if base in store.world.objects}
+def replace_runtime(store, request, _):
+    refuse(35, not all(is_label(label) for label, _ in request.pairs))
+    store.world.runtime = {(label, base) for label, base in request.pairs if base in store.world.objects}
     return f"runtime roots {len(store.world.runtime)}\n"
 
 
-def session_of(it):
-    plain_names(it.owner)
-    refuse(42, not 1 <= it.session <= SESSIONS)
-    return it.session
+def session_of(request):
+    plain_names(request.owner)
+    refuse(42, not 1 <= request.session <= SESSIONS)
+    return request.session
 
 
-def add_temporary(store, it, _):
-    store.world.temporary.add((it.owner, session_of(it), store.valid(it.path)))
+def add_temporary(store, request, _):
+    store.world.temporary.add((request.owner, session_of(request), store.valid(request.path)))
     return "done\n"
 
 
-def end_session(store, it, _):
-    session = session_of(it)
-    ended = {root for root in store.world.temporary if root[:2] == (it.owner, session)}
+def end_session(store, request, _):
+    session = session_of(request)
+    ended = {root for root in store.world.temporary if root[:2] == (request.owner, session)}
     store.world.temporary -= ended
     return f"temporary roots {len(ended)}\n"
 
 
-def delete(store, it, _):
-    named = {store.valid(base) for base in it.paths}
+def delete(store, request, _):
+    named = {store.valid(base) for base in request.paths}
     return store.remove(store.world.referrers(named, store.world.objects.keys()))
 
 
 REQUESTS = {
     "add-text": add_text, "add-source": add_source, "import": add_import, "info": info, "archive": archive_of,
-    "listing": lambda store, it, _: archives.listing(archives.read(archive_of(store, it, _))),
-    "list": lambda store, it, _: store.paths_text(store.world.objects),
-    "live": lambda store, it, _: store.paths_text(store.world.roots_of(store.config)),
-    "dead": lambda store, it, _: store.paths_text(store.world.dead(store.config)),
-    "roots": lambda store, it, is_trusted: store.roots_text(store.world.roots(), is_trusted),
+    "listing": lambda store, request, _: archives.listing(archives.read(archive_of(store, request, _))),
+    "list": lambda store, request, _: store.paths_text(store.world.objects),
+    "live": lambda store, request, _: store.paths_text(store.world.roots_of(store.config)),
+    "dead": lambda store, request, _: store.paths_text(store.world.dead(store.config)),
+    "roots": lambda store, request, is_trusted: store.roots_text(store.world.roots(), is_trusted),
     "roots-of": roots_of, "report": report, "set-permanent": set_permanent, "drop-permanent": drop_permanent,
     "set-user-root": set_user_root, "drop-user-root": drop_user_root, "set-profile": set_profile, "rollback": rollback,
-    "switch": lambda store, it, _: made_current(generation_of(store, it), it.number),
+    "switch": lambda store, request, _: made_current(generation_of(store, request), request.number),
     "delete-generation": delete_generation, "replace-runtime": replace_runtime, "add-temporary": add_temporary,
     "end-session": end_session, "delete": delete,
-    "collect": lambda store, it, _: store.remove(store.world.collected(store.config, it.limit)),
+    "collect": lambda store, request, _: store.remove(store.world.collected(store.config, request.limit)),
 }

@@ -27,13 +27,13 @@ def tables_of(schema: int) -> list[str]:
 
 def columns_of(name: str) -> list[str]:
     """The names of a table's columns."""
-    return [it.split()[0] for it in TABLES[name][0].split(", ")]
+    return [column.split()[0] for column in TABLES[name][0].split(", ")]
 
 
 def making(name: str) -> str:
     """The statement that makes a table."""
     columns, key, _ = TABLES[name]
-    columns = [it[:-2] if it.endswith(" ?") else it + " NOT NULL" for it in columns.split(", ")]
+    columns = [column[:-2] if column.endswith(" ?") else column + " NOT NULL" for column in columns.split(", ")]
     return f"CREATE TABLE {name} ({', '.join(columns)}, PRIMARY KEY ({key})) STRICT;"
 
 
@@ -41,18 +41,19 @@ def rows_of(world: World, store_dir: str, schema: int = 3) -> dict[str, set]:
     """The rows of each table, as sets of tuples."""
     objects = world.objects.items()
     cut = PIECE if schema > 1 else archives.LIMIT
-    first = lambda it: (it.archive[:cut], texts.sha256(it.archive), it.deriver, it.address)
+    first = lambda stored: (stored.archive[:cut], texts.sha256(stored.archive), stored.deriver, stored.address)
     rows = {
         "meta": {("schema", str(schema)), ("store-dir", store_dir)},
-        "object": {(base, *first(it)) for base, it in objects},
-        "refs": {(base, target) for base, it in objects for target in it.references},
-        "outs": {(base, *output) for base, it in objects for output in it.outputs},
+        "object": {(base, *first(stored)) for base, stored in objects},
+        "refs": {(base, target) for base, stored in objects for target in stored.references},
+        "outs": {(base, *output) for base, stored in objects for output in stored.outputs},
         "permanent": {*world.permanent.items()},
         "user_root": {(*key, base) for key, base in world.user.items()},
-        "profile": {(*key, it.current) for key, it in world.profiles.items()},
-        "generation": {(*key, *it) for key, profile in world.profiles.items() for it in profile.generations.items()},
+        "profile": {(*key, profile.current) for key, profile in world.profiles.items()},
+        "generation": {(*key, *generation) for key, profile in world.profiles.items()
+                       for generation in profile.generations.items()},
         "runtime": {*world.runtime},
-        "piece": {(base, number, piece) for base, it in objects for number, piece in pieces_of(it.archive)},
+        "piece": {(base, number, piece) for base, stored in objects for number, piece in pieces_of(stored.archive)},
         "temp_root": {*world.temporary},
     }
     return {name: rows[name] for name in tables_of(schema)}

@@ -44,7 +44,7 @@ def place_of(item: Any) -> int:
 def nearest(number: int, items: Collection) -> Any:
     """The item whose place comes next after a number. So the number means the same item as long as that is there,
     whatever else comes or is left out."""
-    return min(items, key=lambda it: ((place_of(it) - number) % 65_536, it))
+    return min(items, key=lambda item: ((place_of(item) - number) % 65_536, item))
 
 
 class Choices:

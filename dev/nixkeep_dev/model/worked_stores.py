@@ -164,7 +164,7 @@ def roots():
     yield worked.run(f"root root --permanent r {P}") + worked.run("root unroot --permanent r"), "done\ndone\n"
     usage = ["unroot --permanent --owner bob r", "profile keep w", "profile set w", "delete"]
     usage += ["serve --connections 2", "gc --max-freed 007"]
-    yield [worked.status(f"ann {it}") for it in usage], [2] * 6
+    yield [worked.status(f"ann {words}") for words in usage], [2] * 6
 
 
 def sessions():
@@ -179,7 +179,7 @@ def sessions():
     worked.run(f"ann temp add 10 {P}"), worked.run(f"ann temp add 2 {P}"), worked.run(f"bob temp add 2 {P}")
     yield worked.run(f"root delete {P}"), f"denied: live {{temp:10}} {P}\n"
     yield worked.run("ann temp --owner bob end 2"), "denied: own-root\n"
-    yield [worked.run(f"ann temp add {it} {P}") for it in ("0", "4194305")], ["refused: 42 bad-session\n"] * 2
+    yield [worked.run(f"ann temp add {number} {P}") for number in ("0", "4194305")], ["refused: 42 bad-session\n"] * 2
     yield worked.run("ann temp end 10") + worked.run("ann temp end 10"), "temporary roots 1\ntemporary roots 0\n"
     yield worked.run("root roots"), f"{{temp:2}} {P}\n"
     yield worked.run("ann temp end 2") + worked.run("ann live"), f"temporary roots 1\n{P}\n"
@@ -208,11 +208,11 @@ def files():
     yield [tables.world_of(rows[schema])[0].objects == world.objects for schema in (1, 2, 3)], [True] * 3
     opened = lambda **changed: refused(tables.world_of, {**rows[3], **changed})
     yield [opened(), opened(piece=set()), opened(piece={(P, 2, archive[-8:])})], [0, 21, 21]
-    yield opened(object={it for it in rows[3]["object"] if it[0] == X}, piece=set()), 21
-    yield opened(object={(*it[:2], bytes(32), *it[3:]) for it in rows[3]["object"]}), 21
+    yield opened(object={row for row in rows[3]["object"] if row[0] == X}, piece=set()), 21
+    yield opened(object={(*row[:2], bytes(32), *row[3:]) for row in rows[3]["object"]}), 21
     yield opened(profile={("ann", "w", 1)}), 21
     yield opened(profile={("ann", "w", 10_000)}, generation={("ann", "w", 10_000, P)}), 21
-    yield refused(tables.world_of, {name: it for name, it in rows[3].items() if name != "refs"}), 21
+    yield refused(tables.world_of, {name: content for name, content in rows[3].items() if name != "refs"}), 21
     yield refused(tables.world_of, {**rows[1], "piece": set()}), 21
     yield Worked(b'store-dir = "/a/store"', rows[2]).run("ann list"), "refused: 22 other-store-dir\n"
     with_outs = tables.rows_of(with_derivation(b"").machine.databases["f"].world, "/nix/store")

@@ -35,7 +35,7 @@ def spellings():
     yield texts.base32(b"\xff" * 20), "z" * 32
     yield texts.base32(b"\xff"), "7z"
     yield texts.base32(b""), ""
-    yield [refused(texts.unbase32, it, 1) for it in ("zz", "7e", "7")], [11, 9, 10]
+    yield [refused(texts.unbase32, text, 1) for text in ("zz", "7e", "7")], [11, 9, 10]
     yield texts.unbase32("7z", 1), b"\xff"
     folded = texts.folded(b"\x01" + bytes(19) + b"\xff" + bytes(11))
     yield folded, b"\xfe" + bytes(19)
@@ -47,11 +47,12 @@ def spellings():
 
 def names():
     accepted = ["a" * 211, ".x", "...", "a?=+_.-"]
-    yield [texts.is_store_name(it) for it in accepted], [True] * 4
+    yield [texts.is_store_name(text) for text in accepted], [True] * 4
     others = ["a" * 212, ".", "..", "..-x", ".-x", "", "a b", "a/b", "\u00e9"]
-    yield [it for it in others if texts.is_store_name(it)], []
-    yield [it for it in ("a" * 64, "a" * 65, "", "-a", ".", "a-b") if texts.is_plain_name(it)], ["a" * 64, ".", "a-b"]
-    yield [texts.is_store_dir(it) for it in ("/", "/a", "/a/", "/a/../b", "/" + "a" * 199, "/" + "a" * 200)], [
+    yield [text for text in others if texts.is_store_name(text)], []
+    yield [text for text in ("a" * 64, "a" * 65, "", "-a", ".", "a-b") if texts.is_plain_name(text)], [
+        "a" * 64, ".", "a-b"]
+    yield [texts.is_store_dir(text) for text in ("/", "/a", "/a/", "/a/../b", "/" + "a" * 199, "/" + "a" * 200)], [
         False, True, False, False, True, False,
     ]
     addresses = [f"text:sha256:{ABC}", "text:sha256:" + "1" * 52, "text:sha256:" + "2" + "0" * 51, f"sha256:{ABC}"]
@@ -85,7 +86,7 @@ def archive_faults():
     yield number(b"\xff" * 8), 8
     yield [number(size.to_bytes(8, "little")) for size in (16_777_209, 16_777_208)], [8, 1]
     deep = [archives.nested(count) for count in (256, 257)]
-    yield [(len(it), number(it)) for it in deep], [(42_936, 0), (43_104, 6)]
+    yield [(len(text), number(text)) for text in deep], [(42_936, 0), (43_104, 6)]
     yield [number(deep[1][:34_839]), number(deep[1][:34_840])], [1, 6]
     node = "directory", [(b"a", leaf), (b"b", ("symlink", b"a"))]
     yield archives.listing(node), "d .\nr 0 ./a\nl ./b -> a\n"
@@ -136,7 +137,7 @@ def heads():
     yield whole(long(16_384)[:-4]), 36
     length = lambda *values: refused(server.length_of, [(b"content-length", value) for value in values])
     yield [length(), length(b"00"), length(b"1", b"1"), length(b"+1"), length(b"")], [0, 0, 37, 37, 37]
-    yield [length(it) for it in (b"20971520", b"20971521", b"9" * 30, b"18446744073709551615")], [0, 38, 38, 38]
+    yield [length(text) for text in (b"20971520", b"20971521", b"9" * 30, b"18446744073709551615")], [0, 38, 38, 38]
     yield refused(server.length_of, [(b"transfer-encoding", b"chunked"), (b"content-length", b"20971521")]), 37
     who = lambda *fields: refused(server.caller_in, [*fields])
     user, group = (b"store-user", b"ann"), (b"store-group", b"users")

@@ -72,7 +72,7 @@ class World:
         """These paths, and all among the given ones that have a way of references to one of them."""
         reached, grows = set(bases), True
         while grows:
-            more = {it for it in among - reached if self.objects[it].references & reached}
+            more = {base for base in among - reached if self.objects[base].references & reached}
             reached, grows = reached | more, bool(more)
         return reached
 
@@ -83,7 +83,8 @@ class World:
             return dead
         gone = set()
         while dead and self.size(gone) < limit:
-            alone = [it for it in dead if not any(it in self.objects[other].references for other in left - {it})]
+            alone = [base for base in dead
+                     if not any(base in self.objects[other].references for other in left - {base})]
             group = {min(alone)} if alone else self.referrers({min(dead)}, left)
             gone, dead, left = gone | group, dead - group, left - group
         return gone

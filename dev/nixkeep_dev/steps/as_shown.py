@@ -41,14 +41,14 @@ def of_case(text):
 
 def compared(text):
     """A block with what its commands print, as a script that prints the same."""
-    for it in steps_of("".join(f"  {line}\n" for line in text.splitlines())):
-        shown = re.sub("^> $", ">", "$ " + it.command.replace("\n", "\n> "), flags=re.M)
-        yield f"cat <<'SHOWN'\n{shown}\nSHOWN\n{of_case(it.command)}\n"
+    for step in steps_of("".join(f"  {line}\n" for line in text.splitlines())):
+        shown = re.sub("^> $", ">", "$ " + step.command.replace("\n", "\n> "), flags=re.M)
+        yield f"cat <<'SHOWN'\n{shown}\nSHOWN\n{of_case(step.command)}\n"
 
 
 def output_of(scripts):
     """The output of each script of a list, which one shell runs, and the status of the shell."""
-    parts = [f"printf {MARK % at!r}\n{it}" for at, it in enumerate(scripts)]
+    parts = [f"printf {MARK % at!r}\n{text}" for at, text in enumerate(scripts)]
     with tempfile.NamedTemporaryFile("w", suffix=".sh") as script:
         script.write("".join(parts) + "exit 0\n")
         script.flush()
@@ -63,7 +63,7 @@ def main():
         sys.exit(print(__doc__))
     name, *sections = sys.argv[1:]
     page = Path(HERE, name).read_text()
-    commands = [it for section in sections for it in blocks(page, section)]
+    commands = [block for section in sections for block in blocks(page, section)]
     came, status = output_of([ALONE % of_case(text) if kind else "".join(compared(text)) for kind, text in commands])
     shown, seen = [], []
     for (kind, text), output in zip(commands, came):

@@ -74,7 +74,7 @@ class Cases:
             programs, seconds = {"nixkeep": self.program(step.session)}, step.config.getoption("--seconds")
             # (a process of xdist has all steps, and runs some)
             chosen = [step] if hasattr(step.config, "workerinput") else step.session.items
-            for path in dict.fromkeys(it.path for it in chosen if isinstance(it, Step)):
+            for path in dict.fromkeys(item.path for item in chosen if isinstance(item, Step)):
                 self.running[path] = self.pool.submit(cases.run_case, str(path), programs, seconds)
         return self.running[step.path].result()
 

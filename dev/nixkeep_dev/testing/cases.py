@@ -120,7 +120,7 @@ def difference(step, path):
     """What came of a step in place of what was wanted, or None."""
     if not Path(f"{path}.status").exists():
         return "the shell ended, or was stopped, before this step did"
-    output, errors, status = (Path(f"{path}.{it}").read_bytes() for it in ("output", "errors", "status"))
+    output, errors, status = (Path(f"{path}.{kind}").read_bytes() for kind in ("output", "errors", "status"))
     wanted, came = step.parts(), (lines_of(output), lines_of(errors), int(status))
     if are_lines(wanted[0], came[0]) and are_lines(wanted[1], came[1]) and wanted[2] == came[2]:
         return None

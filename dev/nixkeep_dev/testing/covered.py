@@ -30,7 +30,7 @@ NO_TOOL = ("test_launcher", "test_package", "test_package_scripts", "test_releas
 def copied(top: str) -> str:
     """A copy of the repository in which each tool has a Python that reads its environment: else it isn't measured."""
     sabotage.base(top)
-    for path in [it for it in Path(f"{top}/tools").glob("nixkeep-*") if it.read_text().startswith(ALONE)]:
+    for path in [file for file in Path(f"{top}/tools").glob("nixkeep-*") if file.read_text().startswith(ALONE)]:
         path.write_text(path.read_text().replace(ALONE, "#!/usr/bin/python3\n", 1))
     return top
 
@@ -77,8 +77,9 @@ def place_in(folder: str) -> str:
 
 def measured_tests() -> list[str]:
     """The names of the tests that are measured, those that take longest first."""
-    tests = [f"tools/{it}" for it in scripts("tools", "test_") if it not in NO_TOOL]
-    return [parts.TEAM, *sorted(tests, key=lambda it: parts.LONGEST.index(it) if it in parts.LONGEST else len(tests))]
+    tests = [f"tools/{name}" for name in scripts("tools", "test_") if name not in NO_TOOL]
+    return [parts.TEAM, *sorted(
+        tests, key=lambda test: parts.LONGEST.index(test) if test in parts.LONGEST else len(tests))]
 
 
 def short(name: str) -> str:
@@ -111,16 +112,16 @@ class Measured:
 def union(measured: Iterable[Measured]) -> dict[str, set[int]]:
     """The lines that any of these tests ran."""
     made = collections.defaultdict(set)
-    for file, lines in (it for one in measured for it in one.lines.items()):
+    for file, lines in (pair for one in measured for pair in one.lines.items()):
         made[file] |= lines
     return made
 
 
 # Prints the report of coverage for the lines of files, which it reads.
 REPORT = """import coverage, json, sys
-found = coverage.Coverage(data_file=None, config_file=False, messages=False)
-found.get_data().add_lines(json.load(sys.stdin))
-found.report()"""
+measured = coverage.Coverage(data_file=None, config_file=False, messages=False)
+measured.get_data().add_lines(json.load(sys.stdin))
+measured.report()"""
 
 
 def percents(lines: dict[str, set[int]], top: str) -> tuple[int, list[tuple[str, float]]]:
@@ -133,4 +134,4 @@ def percents(lines: dict[str, set[int]], top: str) -> tuple[int, list[tuple[str,
         report.fail(f"coverage measured nothing: {printed[-1000:]}")
     by_file = {name: 100 * (1 - int(missed) / max(int(lines), 1)) for name, lines, missed, _ in rows}
     # (a whole number: some lines run only if something takes its time)
-    return int(by_file.pop("TOTAL")), sorted(by_file.items(), key=lambda it: it[1])
+    return int(by_file.pop("TOTAL")), sorted(by_file.items(), key=lambda pair: pair[1])

@@ -19,14 +19,14 @@ def of_seed(seed: int) -> int:
 
 def of_day(items: Iterable, day: int, count: int = DAYS) -> list:
     """The items of a day: each has one of this many days, and neighbours come on days one after another."""
-    return [it for at, it in enumerate(items) if at % count == day % count]
+    return [item for at, item in enumerate(items) if at % count == day % count]
 
 
 def balanced(items: Iterable, cost: Callable, count: int = DAYS) -> list[list]:
     """The items of each of this many days, so that no day costs much more than another: those that cost most are placed
     first."""
     shares, taken = [[] for _ in range(count)], [0] * count
-    for item in sorted(items, key=lambda it: -cost(it)):
+    for item in sorted(items, key=lambda item: -cost(item)):
         at = taken.index(min(taken))
         shares[at].append(item)
         taken[at] += cost(item)

@@ -72,10 +72,10 @@ def requests() -> Iterator[Request]:
     large, none, done = archive(random.Random(3).randbytes(200_000)), "7" * 32 + "-none", "done\n"
     a, d = text_path("a", b"x"), "0" * 32 + "-d.drv"
     f, o = source_path("myfile", nar, [a]), "1" * 32 + "-o"
-    full = lambda *paths: "".join(sorted(f"{STORE}/{it}\n" for it in paths))
+    full = lambda *paths: "".join(sorted(f"{STORE}/{base}\n" for base in paths))
 
-    def an_import(of_user, wanted, it, nar, *more):
-        body = imported(it, nar, *more)[3]
+    def an_import(of_user, wanted, base, nar, *more):
+        body = imported(base, nar, *more)[3]
         return of_user("POST /import", "import", wanted, body, body)
 
     yield of_ann("GET /report", "report")

@@ -34,7 +34,7 @@ class Words:
 
     def tell(self, what: str, of_how_many: int, verdicts: Iterable[Verdict]) -> None:
         """Has the last lines say how many were tried and refused; fails where there was time for none."""
-        kinds = [it.kind for it in verdicts]
+        kinds = [verdict.kind for verdict in verdicts]
         refused, searched = kinds.count(Kind.REFUSED), kinds.count(Kind.BY_SEARCH)
         of_day = f", of the day by seed {self.seed}" if self.option("--today") else ""
         report.ends_with(f"{len(kinds)} of {of_how_many} {what} tried{of_day}, and {refused + searched} of them"

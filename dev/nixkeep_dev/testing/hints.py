@@ -25,7 +25,7 @@ class Names:
     each other name after a dot those that have it, and `importers` by the file those that import it."""
 
     def __init__(self, trees: dict[str, ast.Module]):
-        self.files = {name_of(it): it for it in trees}
+        self.files = {name_of(path): path for path in trees}
         self.of_modules, self.attributes, self.importers = (collections.defaultdict(set) for _ in range(3))
         for path, tree in trees.items():
             self.read(path, tree)
@@ -34,7 +34,8 @@ class Names:
         modules = {}
         for node in ast.walk(tree):
             if isinstance(node, ast.Import):
-                modules |= {it.asname or it.name: self.files[it.name] for it in node.names if it.name in self.files}
+                modules |= {alias.asname or alias.name: self.files[alias.name] for alias in node.names
+                            if alias.name in self.files}
             elif isinstance(node, ast.ImportFrom):
                 modules |= self.imported(path, node)
         for file in modules.values():
@@ -77,16 +78,17 @@ def functions(body: Iterable[ast.stmt], owner: str | None = None) -> Iterator[tu
 def lacking(node: ast.FunctionDef | ast.AsyncFunctionDef, is_method: bool) -> list[str]:
     """The parameters of a function that have no hint, and `return` if it says nothing of that."""
     given = node.args
-    is_static = any(isinstance(it, ast.Name) and it.id == "staticmethod" for it in node.decorator_list)
+    is_static = any(isinstance(decorator, ast.Name) and decorator.id == "staticmethod"
+                    for decorator in node.decorator_list)
     named = [*given.posonlyargs, *given.args][is_method and not is_static:]
-    named += [*given.kwonlyargs, *(it for it in (given.vararg, given.kwarg) if it)]
+    named += [*given.kwonlyargs, *(arg for arg in (given.vararg, given.kwarg) if arg)]
     says = node.returns is not None or node.name == "__init__"
-    return [it.arg for it in named if it.annotation is None] + ["return"] * (not says)
+    return [arg.arg for arg in named if arg.annotation is None] + ["return"] * (not says)
 
 
 def faults(paths: Iterable[str]) -> Iterator[str]:
     """A line for each function of these files that another one of them calls, and that lacks a hint."""
-    trees = {it: ast.parse(text_of(it)) for it in paths}
+    trees = {path: ast.parse(text_of(path)) for path in paths}
     names = Names(trees)
     for path, tree in trees.items():
         for node, owner in functions(tree.body):

@@ -16,7 +16,7 @@ from nixkeep_dev.testing import report
 PORTS, TAKEN = (10_000, 32_000), collections.deque(maxlen=100)
 
 # The messages that ask for the whole state of a store.
-STATE = [("root", "GET", f"/{it}") for it in ("paths", "roots", "live", "report")]
+STATE = [("root", "GET", f"/{name}") for name in ("paths", "roots", "live", "report")]
 
 
 def message(user: str, method: str, target: str, body: bytes | None = None) -> bytes:

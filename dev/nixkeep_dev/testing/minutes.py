@@ -17,8 +17,8 @@ LEAST = 1.0
 
 def spent() -> float:
     """The processor seconds of this process, and of all that has run and ended below it."""
-    used = [resource.getrusage(it) for it in (resource.RUSAGE_SELF, resource.RUSAGE_CHILDREN)]
-    return sum(it.ru_utime + it.ru_stime for it in used)
+    used = [resource.getrusage(who) for who in (resource.RUSAGE_SELF, resource.RUSAGE_CHILDREN)]
+    return sum(usage.ru_utime + usage.ru_stime for usage in used)
 
 
 def so_far() -> tuple:
@@ -38,14 +38,14 @@ class Minutes:
     def pytest_runtest_makereport(self, item: pytest.Item) -> Iterator[None]:
         outcome = yield
         now = so_far()
-        outcome.get_result().came, self.since = [it - was for it, was in zip(now, self.since)], now
+        outcome.get_result().came, self.since = [total - was for total, was in zip(now, self.since)], now
 
     @pytest.hookimpl(tryfirst=True)
     def pytest_runtest_logreport(self, report: pytest.TestReport) -> None:
         # (that of a test in which a process of xdist has died has nothing)
         report.came = getattr(report, "came", (0, 0, 0, 0))
         before = self.came.get(report.nodeid, (0, 0, 0, 0))
-        self.came[report.nodeid] = [it + was for it, was in zip(report.came, before)]
+        self.came[report.nodeid] = [count + was for count, was in zip(report.came, before)]
         self.clock[report.nodeid] = self.clock.get(report.nodeid, 0) + report.duration
 
     def pytest_report_teststatus(self, report: pytest.TestReport) -> tuple | None:
@@ -59,13 +59,13 @@ class Minutes:
         if not self.came:
             return
         rows = []
-        for it, (work, examples, *_) in self.came.items():
-            file, colons, test = it.partition("::")
-            rows.append((work, self.clock[it], examples, f"{Path(file).name}{colons}{test}"))
+        for node, (work, examples, *_) in self.came.items():
+            file, colons, test = node.partition("::")
+            rows.append((work, self.clock[node], examples, f"{Path(file).name}{colons}{test}"))
         rows.sort(reverse=True)
         longest, others = [row for row in rows if row[0] >= LEAST], [row for row in rows if row[0] < LEAST]
         if others:
-            longest.append((*(sum(it[at] for it in others) for at in range(3)), f"{len(others)} others"))
+            longest.append((*(sum(other[at] for other in others) for at in range(3)), f"{len(others)} others"))
         terminalreporter.section("seconds of processors, and of the clock; examples")
         for work, clock, examples, name in longest:
             terminalreporter.write_line(f"{work:8.1f} {clock:8.1f} {examples:8,}  {name}")

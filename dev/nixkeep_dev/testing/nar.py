@@ -25,8 +25,8 @@ def listing(tree: dict, path: str = ".") -> list[str]:
     """The lines of `nixkeep ls` for a tree as the JSON of Nix describes it."""
     kind = tree["type"]
     if kind == "directory":
-        entries = sorted((os.fsencode(name), it) for name, it in tree["entries"].items())
-        return [f"d {path}", *(it for name, of in entries for it in listing(of, f"{path}/{archives.shown(name)}"))]
+        entries = sorted((os.fsencode(name), entry) for name, entry in tree["entries"].items())
+        return [f"d {path}", *(line for name, of in entries for line in listing(of, f"{path}/{archives.shown(name)}"))]
     if kind == "symlink":
         return [f"l {path} -> {archives.shown(os.fsencode(tree['target']))}"]
     return [f"{'x' if tree.get('executable') else 'r'} {tree['size']} {path}"]
@@ -49,7 +49,7 @@ def derivation(outputs: dict | Iterable[tuple], inputs: Iterable[str] = (), env:
     """A derivation text: its outputs, a base name by each name, the full paths of inputs, and values as they are
     written."""
     named = outputs.items() if isinstance(outputs, dict) else outputs
-    outs = ",".join(f'("{name}","{STORE}/{it}","","")' for name, it in sorted(named))
-    drvs = ",".join(f'("{it}",["dev","out"])' for it in inputs)
-    pairs = ",".join(f'("v{at:06}","{it}")' for at, it in enumerate(env))
+    outs = ",".join(f'("{name}","{STORE}/{base}","","")' for name, base in sorted(named))
+    drvs = ",".join(f'("{path}",["dev","out"])' for path in inputs)
+    pairs = ",".join(f'("v{at:06}","{value}")' for at, value in enumerate(env))
     return f'Derive([{outs}],[{drvs}],[],"x86_64-linux","/bin/sh",[],[{pairs}])'.encode()

@@ -18,7 +18,7 @@ NAME = "abcxyzABC019_+?="
 def literal(text: str) -> str:
     """A string of the language of Nix."""
     escapes = {'"': '\\"', "\\": "\\\\", "\n": "\\n", "\t": "\\t", "\r": "\\r", "$": "\\$"}
-    return '"' + "".join(escapes.get(it, it) for it in text) + '"'
+    return '"' + "".join(escapes.get(char, char) for char in text) + '"'
 
 
 # Where Nix looks for roots it reads the memory map and the environment of each process: here it sees no others.
@@ -89,5 +89,6 @@ class Nix:
         return Path(self.place(path)).read_bytes()
 
     def clear(self) -> None:
-        """Makes what is in the store removable."""
-        subprocess.run(["chmod", "-R", "u+w", self.root], check=True)
+        """Makes what is in the store removable, if there is one yet."""
+        if Path(self.root).exists():
+            subprocess.run(["chmod", "-R", "u+w", self.root], check=True)

@@ -11,7 +11,7 @@ LIST = f"{HERE}/tests/packages.txt"
 # Other commands of these packages.
 ALSO = {"nix": "nix-bin", "nix-instantiate": "nix-bin", "nix-hash": "nix-bin", "ab": "apache2-utils"}
 # Whether Debian's Python has a module. (To load one may take half a second.)
-HAS_MODULE = ["/usr/bin/python3", "-c", "import importlib.util as it, sys; sys.exit(not it.find_spec(sys.argv[1]))"]
+HAS_MODULE = ["/usr/bin/python3", "-c", "import importlib.util as util, sys; sys.exit(not util.find_spec(sys.argv[1]))"]
 
 
 @functools.cache

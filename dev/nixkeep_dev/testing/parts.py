@@ -101,14 +101,14 @@ def of_program(given: dict, is_whole: bool = False) -> list[Part]:
     bounded, more = (BOUNDED, MORE) if is_whole else ({**BOUNDED, **SHORT}, {})
     by_kind = {"faults": "", "compare": "", "tools": "test_"}
     files = [f"{folder}/{script}" for folder, start in by_kind.items() for script in scripts(folder, start)]
-    files = [*LONGEST, *[it for it in files if it not in LONGEST]]
-    return [Part(it, given, [*bounded.get(it, []), *more.get(it, [])]) for it in files]
+    files = [*LONGEST, *[file for file in files if file not in LONGEST]]
+    return [Part(file, given, [*bounded.get(file, []), *more.get(file, [])]) for file in files]
 
 
 def of_gate(given: dict) -> list[Part]:
     """The parts that only the gate runs: those that take longest first."""
     others = {"seed": given["seed"]}
-    return [Part(it, given if needs_program else others, more) for it, (needs_program, more) in OF_GATE.items()]
+    return [Part(name, given if needs_program else others, more) for name, (needs_program, more) in OF_GATE.items()]
 
 
 def side_by_side(chosen: list[Part], begun: Sequence[Callable] = ()) -> list:
@@ -118,9 +118,9 @@ def side_by_side(chosen: list[Part], begun: Sequence[Callable] = ()) -> list:
     processors = len(os.sched_getaffinity(0))
     # (most of them wait now and then, but not the edits)
     with ThreadPoolExecutor(len(begun) + processors if begun else 2 * processors) as pool:
-        first = [pool.submit(it) for it in begun]
-        others = [pool.submit(it.run) for it in chosen]
-        for it in [*others, *first]:
-            if ran := it.result():
+        first = [pool.submit(call) for call in begun]
+        others = [pool.submit(part.run) for part in chosen]
+        for future in [*others, *first]:
+            if ran := future.result():
                 runs.show(ran)
-        return [it.result() for it in [*first, *others]]
+        return [future.result() for future in [*first, *others]]

@@ -35,7 +35,7 @@ class Loaded:
         counts = counts or self.counts
         Path(counts).write_bytes(bytes(16))
         return {**os.environ, "LD_PRELOAD": self.library, "COUNTS": counts,
-                **{name: str(it) for name, it in settings.items()}}
+                **{name: str(value) for name, value in settings.items()}}
 
     def run(self, words: list, given: bytes = b"", **settings: Any) -> tuple:
         """Status, output and errors of a run of the program."""

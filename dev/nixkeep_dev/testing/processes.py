@@ -39,7 +39,7 @@ def writing_to(pipe: IO) -> list[int]:
             # (samestat: the pipe is known by its number, and has no name)
             if os.path.samestat(file.stat(), wanted):
                 pids.append(int(file.parts[2]))
-    return [it for it in pids if it != os.getpid()]
+    return [pid for pid in pids if pid != os.getpid()]
 
 
 def end(top: int, pipe: IO | None = None) -> None:

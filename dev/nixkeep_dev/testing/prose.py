@@ -38,7 +38,7 @@ def line_at(text: str, at: int) -> int:
 
 def blanked(text: str, pattern: str) -> str:
     """The text without what matches, with its line feeds, so that places stay in their lines."""
-    return re.sub(pattern, lambda it: "\n" * it[0].count("\n"), text, flags=re.M | re.S)
+    return re.sub(pattern, lambda match: "\n" * match[0].count("\n"), text, flags=re.M | re.S)
 
 
 def without_blocks(text: str) -> str:
@@ -47,7 +47,7 @@ def without_blocks(text: str) -> str:
 
 def without_code(text: str) -> str:
     text = without_blocks(text)
-    return re.sub(r"(`+)[^`].*?\1", lambda it: "CODE" + "\n" * it[0].count("\n"), text, flags=re.S)
+    return re.sub(r"(`+)[^`].*?\1", lambda match: "CODE" + "\n" * match[0].count("\n"), text, flags=re.S)
 
 
 # ---- words
@@ -64,7 +64,7 @@ def words_pattern(cells: Iterable[str]) -> re.Pattern:
     parts = []
     for cell in cells:
         listed = re.split(r"[,;] *", re.sub(r" *\([^)]*\)", "", cell).replace("`", ""))
-        parts.append(PATTERNS.get(cell) or "|".join(re.escape(it) for it in listed if it))
+        parts.append(PATTERNS.get(cell) or "|".join(re.escape(phrase) for phrase in listed if phrase))
     one = r"(?:[ \t]+|[ \t]*\n[ \t]*)"
     if not parts:
         return re.compile(r"(?!)")
@@ -73,10 +73,11 @@ def words_pattern(cells: Iterable[str]) -> re.Pattern:
 
 def words_in(name: str, text: str, pattern: re.Pattern) -> list[str]:
     """The places of such words in a text of a file, code and what is quoted left out."""
-    text = re.sub(r'"[^"\n]*"', lambda it: "QUOTED", without_code(text))
+    text = re.sub(r'"[^"\n]*"', lambda match: "QUOTED", without_code(text))
     if name == WORDS_OF:
         text = re.sub(r"^\|.*$", "", text, flags=re.M)
-    return [f"{name}:{line_at(text, it.start())}: {' '.join(it[0].split())!r}" for it in pattern.finditer(text)]
+    return [f"{name}:{line_at(text, match.start())}: {' '.join(match[0].split())!r}"
+            for match in pattern.finditer(text)]
 
 
 def prose_of_case(text: str) -> str:
@@ -90,7 +91,7 @@ def prose_of_script(text: str) -> str:
     for node in ast.walk(ast.parse(text)):
         if isinstance(node, (ast.Module, ast.ClassDef, ast.FunctionDef)) and ast.get_docstring(node):
             kept |= {*range(node.body[0].lineno, node.body[0].end_lineno + 1)}
-    prose = (it if at in kept or re.match(r" *# ", it) else "" for at, it in enumerate(lines, 1))
+    prose = (line if at in kept or re.match(r" *# ", line) else "" for at, line in enumerate(lines, 1))
     return "\n".join(prose).replace('"""', "")
 
 
@@ -104,7 +105,7 @@ def begun_by_pronoun(name: str, starts: str) -> list[str]:
     """The comments that begin with a pronoun."""
     lines = [re.match(rf"\s*{starts}(.*)", line) for line in text_of(name).split("\n")]
     first = [at for at, line in enumerate(lines) if line and (at == 0 or not lines[at - 1])]
-    return [f"{name}:{at + 1}: begins with {it[0]!r}" for at in first if (it := PRONOUN.match(lines[at][1]))]
+    return [f"{name}:{at + 1}: begins with {match[0]!r}" for at in first if (match := PRONOUN.match(lines[at][1]))]
 
 
 # ---- sentences
@@ -119,11 +120,11 @@ def sentences(text: str) -> list[list[str]]:
     split = []
     for part in re.split(r"\n\s*\n", text):
         ended = re.split(r"(?<=[.!?])[\"')]*\s+(?=[\"'(]?[A-Z`0-9])", " ".join(part.split()))
-        split += [it.split() for it in ended]
-    return [it for it in split if len(it) > 1]
+        split += [sentence.split() for sentence in ended]
+    return [words for words in split if len(words) > 1]
 
 
 def average(text: str) -> float:
     """How many words a sentence has on average."""
-    counts = [len(it) for it in sentences(text)]
+    counts = [len(words) for words in sentences(text)]
     return sum(counts) / max(len(counts), 1)

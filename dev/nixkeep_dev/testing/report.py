@@ -101,8 +101,9 @@ def ends_with(line: str) -> None:
 
 def missing(needed: Iterable[str]) -> str | None:
     """What to print of the tools that aren't installed; None where all are."""
-    lacking = [it for it in needed if not packages.place_of(it)]
-    return f"needs {', '.join(f'{it} (Debian: {packages.package_of(it)})' for it in lacking)}" if lacking else None
+    lacking = [name for name in needed if not packages.place_of(name)]
+    return (f"needs {', '.join(f'{name} (Debian: {packages.package_of(name)})' for name in lacking)}"
+            if lacking else None)
 
 
 def needs(*needed: str) -> None:
@@ -159,7 +160,7 @@ def options(doc: str, more: Callable = lambda arguments: None, parts: Iterable[C
     if parts:
         if not named.keys() >= {*words.parts}:
             arguments.error(f"the parts are {', '.join(named)}")
-        words.parts = [named[it] for it in words.parts or named]
+        words.parts = [named[name] for name in words.parts or named]
     return words
 
 

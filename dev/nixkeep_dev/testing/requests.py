@@ -7,8 +7,8 @@ from nixkeep_dev.testing.nar import archive, derivation, hidden, nar_hash, text_
 from nixkeep_dev.testing.tables import Built
 
 
-def path(it: str) -> bytes:
-    return lines(("path", it))
+def path(base: str) -> bytes:
+    return lines(("path", base))
 
 
 def text(name: str, contents: bytes, *refs: str) -> bytes:
@@ -16,9 +16,9 @@ def text(name: str, contents: bytes, *refs: str) -> bytes:
     return lines(("name", name), *[("reference", ref) for ref in refs], payload=contents)
 
 
-def imported(it: str, nar: bytes, *more: tuple) -> tuple:
+def imported(base: str, nar: bytes, *more: tuple) -> tuple:
     """An import of an archive under a path, with further entries."""
-    return "root", "POST", "/import", lines(("path", it), ("nar-hash", nar_hash(nar)), *more, payload=nar)
+    return "root", "POST", "/import", lines(("path", base), ("nar-hash", nar_hash(nar)), *more, payload=nar)
 
 
 def requests() -> list[tuple]:
@@ -70,7 +70,7 @@ LISTS = [("", requests), ("keep-outputs = true\nkeep-derivations = true\n", kept
 
 def named() -> list:
     """Each request of LISTS, in order: its name, the settings and the request."""
-    return [(" ".join(it[:3]), settings, it) for settings, requests in LISTS for it in requests()]
+    return [(" ".join(request[:3]), settings, request) for settings, requests in LISTS for request in requests()]
 
 
 def some_store(schema: int) -> Built:

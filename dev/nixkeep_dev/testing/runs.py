@@ -49,7 +49,7 @@ def command(words: list[str]) -> list[str]:
     file = str(Path(words[0]).absolute())
     if not file.endswith((".py", ".txt", "/tests/cases")):
         return [*words]
-    top = next(it for it in Path(file).parents if (it / "bin/run").exists())
+    top = next(folder for folder in Path(file).parents if (folder / "bin/run").exists())
     return [f"{top}/bin/run", file, *words[1:]]
 
 
@@ -57,7 +57,7 @@ def compile_modules(top: str) -> None:
     """Compiles the modules of a copy of the repository, so that not each process that imports one has to do it. What
     was made of other bytes than a module has now isn't used."""
     words = [sys.executable, "-m", "compileall", "-qq", "-j", "0", "--invalidation-mode", "checked-hash"]
-    subprocess.run([*words, *(f"{top}/{it}" for it in ("bench", "dev", "examples", "tests", "tools"))])
+    subprocess.run([*words, *(f"{top}/{name}" for name in ("bench", "dev", "examples", "tests", "tools"))])
 
 
 @functools.cache
@@ -163,26 +163,26 @@ def show(ran: Ran) -> None:
 def show_parts(ended):
     """A table of the runs, those first that took most of the processors, and the ends of those that failed. Numbers of
     a run with a seed may differ with another one, as each day has. Some say what they tried of what there is."""
-    columns = "".join(f"{it:>8}" for it in ("clock", "passed", "failed", "skipped"))
+    columns = "".join(f"{title:>8}" for title in ("clock", "passed", "failed", "skipped"))
     report.tell(f"\n{'minutes of parts':30}{'processor':>10}{columns}  {'seed':6}  tried")
-    for it in sorted(ended, key=lambda it: -it.work):
-        numbers = f"{it.minutes:8.1f}{it.passed:8}{it.failed:8}{it.skipped:8}  {it.seed() or '':6}"
-        report.tell(f"{it.name:30}{it.work:10.1f}{numbers}  {it.part()}".rstrip())
-    for it in ended:
-        if it.failed:
-            report.tell("\n".join([f"\n{it.name} failed, and ended so:", *it.end_of_failed()]))
+    for ran in sorted(ended, key=lambda ran: -ran.work):
+        numbers = f"{ran.minutes:8.1f}{ran.passed:8}{ran.failed:8}{ran.skipped:8}  {ran.seed() or '':6}"
+        report.tell(f"{ran.name:30}{ran.work:10.1f}{numbers}  {ran.part()}".rstrip())
+    for ran in ended:
+        if ran.failed:
+            report.tell("\n".join([f"\n{ran.name} failed, and ended so:", *ran.end_of_failed()]))
 
 
 def show_skips(ended, left_out):
     """What was skipped, and why, a line each."""
-    lines = [f"  {it.name}: {what}" for it in ended for what in it.skips()] + [f"  {it}" for it in left_out]
+    lines = [f"  {ran.name}: {what}" for ran in ended for what in ran.skips()] + [f"  {name}" for name in left_out]
     if lines:
         report.tell("\nskipped:\n" + "\n".join(lines))
 
 
 def not_allowed(ended: list[Ran]) -> int:
     """Prints what was skipped that the list of skips doesn't name, where a skip is a failure; how many there are."""
-    lines = [line for it in ended for line in skips.faults(it, skips.allowed())]
+    lines = [line for ran in ended for line in skips.faults(ran, skips.allowed())]
     if lines:
         report.tell(f"\nskipped, and {skips.NAME} doesn't name it:\n" + "\n".join(f"  {line}" for line in lines))
     return len(lines)
@@ -198,6 +198,6 @@ def together(ended: list[Ran], more_failed: int = 0, left_out: Sequence[str] = (
     show_skips(ended, left_out)
     more_failed += 0 if may_skip else not_allowed(ended)
     say()
-    passed, failed = sum(it.passed for it in ended), sum(it.failed for it in ended) + more_failed
-    report.tell(report.ending(passed, failed, sum(it.skipped for it in ended) + len(left_out)))
+    passed, failed = sum(ran.passed for ran in ended), sum(ran.failed for ran in ended) + more_failed
+    report.tell(report.ending(passed, failed, sum(ran.skipped for ran in ended) + len(left_out)))
     return 1 if failed else 0

@@ -54,7 +54,7 @@ def table() -> list[Fault]:
 
 def parts_of_table() -> set[tuple]:
     """The parts that notice the faults of the table."""
-    return {tuple(it.part) for it in table()}
+    return {tuple(fault.part) for fault in table()}
 
 
 # ---- days
@@ -69,7 +69,8 @@ def costs() -> dict[tuple, float]:
 def write_costs(measured: dict[tuple, float]) -> None:
     """Writes the processor seconds of each part that the table has: those of these parts anew."""
     kept, parts = [line for line in Path(COSTS).read_text().splitlines() if line.startswith("#")], parts_of_table()
-    rows = sorted(((part, it) for part, it in {**costs(), **measured}.items() if part in parts), key=lambda it: -it[1])
+    rows = sorted(((part, seconds) for part, seconds in {**costs(), **measured}.items() if part in parts),
+                  key=lambda row: -row[1])
     Path(COSTS).write_text("\n".join([*kept, *(f"{seconds:.1f}: {shlex.join(part)}" for part, seconds in rows), ""]))
 
 
@@ -78,14 +79,14 @@ def by_days():
     faults of one part come together as long as no day takes longer than others; those that take most are placed
     first."""
     known, every = costs(), table()
-    cost = lambda it: known.get(tuple(it.part), UNKNOWN)
+    cost = lambda fault: known.get(tuple(fault.part), UNKNOWN)
     taken, shares = [0] * days.DAYS, [[] for _ in range(days.DAYS)]
-    for fault in sorted(every, key=lambda it: (-cost(it), it.part)):
-        more = [cost(fault) * (1 if any(it.part == fault.part for it in on) else 2) for on in shares]
-        at = min(range(days.DAYS), key=lambda it: taken[it] + more[it])
+    for fault in sorted(every, key=lambda fault: (-cost(fault), fault.part)):
+        more = [cost(fault) * (1 if any(other.part == fault.part for other in on) else 2) for on in shares]
+        at = min(range(days.DAYS), key=lambda day: taken[day] + more[day])
         taken[at] += more[at]
         shares[at].append(fault)
-    return [[it for it in every if it in on] for on in shares]
+    return [[fault for fault in every if fault in on] for on in shares]
 
 
 def of_day(day: int) -> list[Fault]:
@@ -97,8 +98,8 @@ def of_day(day: int) -> list[Fault]:
 
 def git(top, *words):
     # (a file that gets one more link is as it was)
-    settings = [it for value in ("user.name=nixkeep", "user.email=nixkeep@invalid", "core.trustctime=false")
-                for it in ("-c", value)]
+    settings = [word for value in ("user.name=nixkeep", "user.email=nixkeep@invalid", "core.trustctime=false")
+                for word in ("-c", value)]
     subprocess.run(["git", "-C", top, *settings, *words], check=True)
 
 
@@ -202,7 +203,7 @@ def changed_program(fault: Fault, file: str, room: str) -> str:
         elif key == "become":
             if not Path(made).exists():
                 shutil.copy2(file, made)
-            was, now = (it.encode().decode("unicode_escape").encode("latin-1") for it in (old, text))
+            was, now = (part.encode().decode("unicode_escape").encode("latin-1") for part in (old, text))
             if len(was) != len(now):
                 report.fail(f"{fault.name}: {len(was)} bytes can't become {len(now)}")
             replaced(made, was, now)

@@ -34,8 +34,8 @@ def is_like(pattern, text):
 def faults(ran: Any, named: Iterable[tuple]) -> list[str]:
     """What a run skipped that isn't among these, a line each, and what it didn't do although nothing is said of it."""
     said = ran.skips()
-    wrong = [f"{ran.name}: skipped: {it}" for it in said
-             if not any(fnmatch.fnmatchcase(ran.name, part) and is_like(what, it) for part, what in named)]
+    wrong = [f"{ran.name}: skipped: {reason}" for reason in said
+             if not any(fnmatch.fnmatchcase(ran.name, part) and is_like(what, reason) for part, what in named)]
     if ran.skipped and not said:
         wrong.append(f"{ran.name}: {ran.skipped} skipped, and no line says what")
     if not (ran.passed or ran.failed or ran.skipped):

@@ -35,7 +35,7 @@ def put_text(conn: sqlite3.Connection, name: str, contents: bytes, references: C
     """The rows of a text. Returns its path."""
     path, nar = text_path(name, contents, references), archive(contents)
     conn.execute("INSERT INTO object VALUES (?, ?, ?, NULL, ?)", (path, nar, sha256(nar), f"text:{nar_hash(contents)}"))
-    conn.executemany("INSERT INTO refs VALUES (?, ?)", [(path, it) for it in references])
+    conn.executemany("INSERT INTO refs VALUES (?, ?)", [(path, target) for target in references])
     return path
 
 

@@ -111,7 +111,7 @@ SIZES = [0, 1, 7, 8, 200, 5000, 65_424 - 8, 65_424, 65_424 + 1, 70_000, 2 * PIEC
 def some_object(rng, made, at, paths):
     """Puts a random object, which refers to some of these paths."""
     refs, contents = rng.sample(paths, min(len(paths), rng.choice([0, 0, 1, 2, 5]))), rng.randbytes(rng.choice(SIZES))
-    deriver = rng.choice([None, None, hidden(f"gone{at}.drv"), *[it for it in paths if it.endswith(".drv")][:3]])
+    deriver = rng.choice([None, None, hidden(f"gone{at}.drv"), *[drv for drv in paths if drv.endswith(".drv")][:3]])
     kind = rng.choice(["text", "source", "imported", "derivation"])
     if kind == "text":
         return made.put_text(f"text{at}", contents, refs, deriver)
@@ -121,8 +121,8 @@ def some_object(rng, made, at, paths):
         path = hidden(f"handed{at}")
         return made.put(path, archive(contents), [*refs, *([path] if rng.random() < 0.3 else [])], deriver)
     names = rng.sample(["out", "dev", "lib"], rng.choice([1, 2]))
-    return made.put_text(f"made{at}.drv", derivation({it: rng.choice([hidden(f"out{at}"), *paths]) for it in names}),
-                         refs, deriver)
+    return made.put_text(f"made{at}.drv",
+                         derivation({name: rng.choice([hidden(f"out{at}"), *paths]) for name in names}), refs, deriver)
 
 
 def some_built(rng: random.Random, count: int) -> Built:

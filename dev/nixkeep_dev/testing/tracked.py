@@ -16,7 +16,7 @@ def git(*words: str) -> list[str]:
 
 def tracked(*patterns: str) -> list[str]:
     """The paths of tracked files that are there."""
-    return [it for it in git("ls-files", "--", *patterns) if Path(f"{HERE}/{it}").exists()]
+    return [path for path in git("ls-files", "--", *patterns) if Path(f"{HERE}/{path}").exists()]
 
 
 def text_of(path: str, errors: str = "strict") -> str:

@@ -18,7 +18,8 @@ def update(table, what, where):
 
 def cut_at(path, parts, numbers):
     """The archive's row has the first of these bytes, and pieces the others, with these numbers."""
-    pieces = "".join(f"INSERT INTO piece VALUES ('{path}', {at}, {blob(it)});" for at, it in zip(numbers, parts[1:]))
+    pieces = "".join(f"INSERT INTO piece VALUES ('{path}', {at}, {blob(part)});"
+                     for at, part in zip(numbers, parts[1:]))
     row = update("object", f"nar = {blob(parts[0])}", f"base = '{path}'")
     return f"BEGIN; {row} DELETE FROM piece WHERE base = '{path}'; {pieces} COMMIT;"
 
@@ -46,8 +47,8 @@ class Faulty:
 
     def of_settings(self) -> dict[str, str]:
         return {
-            **{f"schema `{it}`": update("meta", f"val = '{it}'", "word = 'schema'")
-               for it in ("", "0", "4", "01", "03", " 3", "3 ", "three")},
+            **{f"schema `{value}`": update("meta", f"val = '{value}'", "word = 'schema'")
+               for value in ("", "0", "4", "01", "03", " 3", "3 ", "three")},
             "no schema": "DELETE FROM meta WHERE word = 'schema';",
             "no store directory": "DELETE FROM meta WHERE word = 'store-dir';",
             "a store directory that is none": update("meta", "val = '/'", "word = 'store-dir'"),
@@ -168,8 +169,8 @@ class Faulty:
     def of_tables(self) -> dict[str, str]:
         return {
             "no rows at all": "".join(f"DELETE FROM {table};" for table in TABLES),
-            **{f"schema `{it}` with all tables": update("meta", f"val = '{it}'", "word = 'schema'")
-               for it in ("1", "2")},
+            **{f"schema `{value}` with all tables": update("meta", f"val = '{value}'", "word = 'schema'")
+               for value in ("1", "2")},
             **{f"a {table} without its table": f"DROP TABLE {table};" for table in TABLES},
         }
 
@@ -186,11 +187,11 @@ TRIGGER = "CREATE TRIGGER on_{0} AFTER INSERT ON {0} BEGIN DELETE FROM note; END
 def changed(table, old, new):
     """All tables, one of them by another text."""
     assert old in making(table)
-    return "".join(making(it).replace(old, new) if it == table else making(it) for it in TABLES)
+    return "".join(making(name).replace(old, new) if name == table else making(name) for name in TABLES)
 
 
 def all_changed(by_table):
-    return [changed(table, *it) for table, pairs in by_table.items() for it in pairs]
+    return [changed(table, *pair) for table, pairs in by_table.items() for pair in pairs]
 
 
 # Texts for an empty file, which is a store then that is made or opened, or is refused.
@@ -262,11 +263,12 @@ REFUSED = [
     ALL + "CREATE UNIQUE INDEX one ON refs (target);",
     ALL + "CREATE UNIQUE INDEX one ON refs (lower(target));",
     ALL + "CREATE UNIQUE INDEX one ON runtime (label COLLATE NOCASE, target);",
-    *[ALL + BEFORE + TRIGGER.format(it) for it in TABLES],
+    *[ALL + BEFORE + TRIGGER.format(table) for table in TABLES],
     *all_changed(REFUSED_BY_TABLE),
 ]
 
 
 def schemas() -> list[tuple]:
     """Each such text, and what comes of it."""
-    return [(it, word) for word, texts in (("made", MADE), ("opened", OPENED), ("refused", REFUSED)) for it in texts]
+    return [(text, word) for word, texts in (("made", MADE), ("opened", OPENED), ("refused", REFUSED))
+            for text in texts]
