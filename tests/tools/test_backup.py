@@ -1191,8 +1191,8 @@ def failing_at(patch, place, error):
 
 @pytest.fixture
 def by_signals():
-    """Signals end what is done here as they end a restore."""
-    before = {number: signal.getsignal(number) for number in stopping.ENDING}
+    """Signals end what is done here as they end a restore, also where nohup has the tests ignore one."""
+    before = {number: signal.signal(number, signal.SIG_DFL) for number in stopping.ENDING}
     stopping.by_signals("restore")
     yield
     for number, handler in before.items():
