@@ -150,6 +150,16 @@ def test_mistakes():
 
 
 @finds_nothing
+def test_found():
+    """Each text that a wrong body or definition replaces is in its file, exactly once."""
+    for path in tracked("crates/*.edit"):
+        changed, crate = bodies.changes(f"{HERE}/{path}"), Path(HERE, *Path(path).parts[:2])
+        texts = {file: (crate / file).read_text("utf-8") for file, _, _ in changed if (crate / file).is_file()}
+        if not changed or bodies.laid(changed, texts) is None:
+            yield f"{path}: what it replaces isn't there exactly once"
+
+
+@finds_nothing
 def test_survivors():
     """Each wrong body of tests/gate/survivors.txt is there, and has a reason."""
     there = {(crate, edit.name) for of_bodies in (True, False) for crate, edit in bodies.every(of_bodies)}

@@ -169,7 +169,7 @@ def excused(file: str = EXCUSED) -> list[tuple]:
     return [tuple(line.partition(":")[0].split()) for line in lines if line and not line.startswith("#")]
 
 
-def changes(path):
+def changes(path: str) -> list[tuple]:
     """The changes of an edit: the file, the old text and the new."""
     edited, file, old = [], None, None
     for line in Path(path).read_text(encoding="utf-8").split("\n"):
