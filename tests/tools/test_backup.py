@@ -318,7 +318,7 @@ def test_a_long_copy_is_stopped(folder, monkeypatch):
     finally:
         signal.setitimer(signal.ITIMER_REAL, 0)
         signal.signal(signal.SIGALRM, before)
-    assert os.path.getsize(to) < os.path.getsize(large)
+    assert Path(to).stat().st_size < Path(large).stat().st_size
 
 
 @pytest.mark.parametrize("table, wanted", [
@@ -959,7 +959,7 @@ def test_a_restore_from_a_copy_that_grows(store, good, monkeypatch):
     """Whoever may write it fills no disk: it has the bytes that it had."""
     real, sizes, copy = backup_file.fresh, [], f"{store.folder}/grows.db"
     shutil.copy(f"{store.to}/{store.copies()[0]}", copy)
-    size = os.path.getsize(copy)
+    size = Path(copy).stat().st_size
 
     def fresh(*words):
         with open(copy, "ab") as more:
@@ -967,7 +967,7 @@ def test_a_restore_from_a_copy_that_grows(store, good, monkeypatch):
         return real(*words)
 
     monkeypatch.setattr(backup_file, "fresh", fresh)
-    backup_restore.put(copy, store.folder, lambda path: sizes.append(os.path.getsize(path)))
+    backup_restore.put(copy, store.folder, lambda path: sizes.append(Path(path).stat().st_size))
     assert sizes == [size]
 
 
@@ -977,7 +977,7 @@ def test_a_restore_whose_test_fails(error, store, good):
     before, seen = store.bytes(), []
 
     def test(path):
-        seen.append(os.stat(os.path.dirname(path)).st_mode & 0o777)
+        seen.append(Path(path).parent.stat().st_mode & 0o777)
         raise error
 
     mask = os.umask(0)
@@ -1222,6 +1222,7 @@ def test_a_restore_that_is_stopped(error, store, good, monkeypatch, by_signals):
             break
         status, output, errors = listed(f"{room}/store.db")
         assert status == 3 or (status, output, errors) == wanted, place
+        # (lexists: the link leads nowhere, and Path.exists follows it)
         link, made = ([at / name for at in (room, *room.glob("aside-*")) if os.path.lexists(at / name)]
                       for name in ("store.db-x", "store.db-y"))
         assert {os.readlink(file) for file in link} == {"none"} and made[0].is_dir() and len(made) == 1
@@ -1248,7 +1249,7 @@ def noted(patch):
         real[what](name, to, **where)
         folder = where.get("dst_dir_fd")
         notes.append((*seen(to, dir_fd=folder, follow_symlinks=False),
-                      os.stat(os.path.dirname(to) if folder is None else folder).st_ino))
+                      os.stat(Path(to).parent if folder is None else folder).st_ino))
 
     def make(name, mode, dir_fd):
         real["mkdir"](name, mode, dir_fd=dir_fd)

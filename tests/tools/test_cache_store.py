@@ -249,7 +249,7 @@ def test_a_list_with_a_damaged_page(is_running, folder):
             damaged.seek(at)
             damaged.write(bytes(range(255, 55, -1)))
         shares = shares if is_running else cache_shares.Shares(file, 1 << 30)
-        assert is_running or (os.path.exists(f"{file}.damaged") and not shares.used["ann"]), at
+        assert is_running or (Path(f"{file}.damaged").exists() and not shares.used["ann"]), at
         shares.listed([])
         shares.add("bob", "b", 1)
         with shares.room("ann", 5, "a"):

@@ -247,10 +247,10 @@ def test_a_bucket_that_has_for_a_while_what_was_deleted(bucket, monkeypatch):
     """As one of many machines may. It is gone at once here, and uploaded anew, since it will be gone there, too."""
     from nixkeep_tools import blobs_bucket
 
-    asked = []
+    methods = []
 
     def reply(method, target, _):
-        asked.append(method)
+        methods.append(method)
         if method == "GET" and "list-type" in target:
             return listing([f"p/{blobs.key_of(name)}" for name in NAMES[:3]])
         return (204, OCTETS, b"") if method == "DELETE" else (200, OCTETS, b"" if method == "PUT" else BLOB)
@@ -262,8 +262,8 @@ def test_a_bucket_that_has_for_a_while_what_was_deleted(bucket, monkeypatch):
         for name in NAMES[:2]:
             place.delete(name)
         assert [blob.name for blob in place.list()] == [NAMES[0], NAMES[2]], "as many as are remembered"
-        assert place.size(NAMES[1]) is None and "PUT" not in asked
-        assert place.put(__file__, NAMES[1]) and asked[-1] == "PUT"
+        assert place.size(NAMES[1]) is None and "PUT" not in methods
+        assert place.put(__file__, NAMES[1]) and methods[-1] == "PUT"
         assert place.size(NAMES[1]) == len(BLOB) and not place.put(__file__, NAMES[1])
 
 

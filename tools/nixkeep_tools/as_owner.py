@@ -19,6 +19,7 @@ def looked(path: str, look: Callable[[str], dict]) -> dict | None:
 
     Raises OSError where there is no such folder.
     """
+    # (abspath: Path.absolute leaves `..` in a path, and Path.resolve takes links out of it)
     folder, name = os.path.split(os.path.abspath(path))
     opened = os.open(folder, os.O_RDONLY | os.O_DIRECTORY)
     try:

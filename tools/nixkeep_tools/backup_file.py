@@ -183,7 +183,7 @@ def before_migration(words: argparse.Namespace) -> str | None:
     if number is None or number >= max(store_file.LACKS):
         return None
     # (else the copy that another start has begun would get the name of one that is tested)
-    with backup_folder.locked(os.path.dirname(os.path.abspath(words.db))):
+    with backup_folder.locked(str(Path(words.db).absolute().parent)):
         return keep(words, number)
 
 
@@ -200,7 +200,7 @@ def keep(words: argparse.Namespace, number: int) -> str:
             raise Stop(f"failed: test: {fresh}: the store has other objects")
         backup_folder.sync(fresh)
         os.rename(fresh, kept)
-        backup_folder.sync(os.path.dirname(os.path.abspath(kept)))
+        backup_folder.sync(str(Path(kept).parent))
     finally:
         with contextlib.suppress(FileNotFoundError):
             os.unlink(fresh)

@@ -2,6 +2,7 @@
 import argparse
 import contextlib
 import fcntl
+# (os.path: of what the caller may not look at, or a link that leads nowhere or to itself, Path says something else)
 import os
 import re
 import stat
@@ -90,7 +91,7 @@ def held(names, folder):
                 continue
             all_open.callback(os.close, number)
             if not store_file.lock(number):
-                path = os.path.join(os.readlink(f"/proc/self/fd/{folder}"), name)
+                path = f"{os.readlink(f'/proc/self/fd/{folder}')}/{name}"
                 why = explain_file.of_locks(f"/proc/self/fd/{number}", path)
                 raise Stop(f"failed: restore: {why[0].text if why else f'{path} was locked'}")
         yield
@@ -265,7 +266,6 @@ def refuse_words(words, folder):
 
 def restore(words: argparse.Namespace) -> str:
     """Puts a store back from a copy, which is tested before anything is stopped. Returns the line that is printed."""
-    # (os.path: of what the caller may not look at, or a link that leads to itself, Path raises other errors)
     folder = os.path.realpath(words.folder or f"/var/lib/nixkeep/{words.name}")
     config = words.config or f"/etc/nixkeep/{words.name}.toml"
     refuse_words(words, folder)

@@ -9,6 +9,7 @@ import sqlite3
 import sys
 from collections.abc import Awaitable, Callable
 from concurrent.futures import ThreadPoolExecutor
+from pathlib import Path
 
 from aiohttp import HttpVersion10, HttpVersion11, web
 from aiohttp.http_exceptions import HttpProcessingError
@@ -129,7 +130,7 @@ def large_of(said, server, folder, sending, shares, store, ends):
         print(f"nixkeep-cache: {failed}", file=sys.stderr, flush=True)
     kept = Blobs(place, said.blobs_level, sending, ends)
     large = Large(kept, Pointers(server), said.large_from, Stored(f"{folder}/arrived"), store)
-    near = said.db and os.path.dirname(os.path.abspath(said.db))
+    near = said.db and str(Path(said.db).absolute().parent)
     return [large, Sweep(kept, large.pointers, shares, said.grace, said.idle, f"{folder}/swept.json", near)]
 
 

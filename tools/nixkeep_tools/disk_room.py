@@ -1,5 +1,6 @@
 """Room on a disk, which is looked for before bytes are written whose number is known."""
 import os
+from pathlib import Path
 
 from .failures import Stop
 
@@ -10,7 +11,7 @@ LEFT = 64 << 20
 def demand(size: int, path: str, left: int = LEFT) -> None:
     """Raises Stop where the disk of a path has no room for `size` bytes and `left` more, which a store needs to go on.
     """
-    folder = os.path.dirname(os.path.abspath(path))
+    folder = Path(path).absolute().parent
     seen = os.statvfs(folder)
     # (some file systems don't say how large they are)
     if seen.f_blocks and (free := seen.f_bavail * seen.f_frsize) < size + left:

@@ -245,7 +245,7 @@ class Store:
         with store_file.open_store(file, despite_lock=True) as conn:
             size -= store_file.bytes_of(conn, "freelist_count")
         if size > 0:
-            disk_room.demand(size, os.path.realpath(file), 0)
+            disk_room.demand(size, str(Path(file).resolve()), 0)
 
     # ---- what is put there
 

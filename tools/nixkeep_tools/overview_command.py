@@ -52,6 +52,7 @@ def made(said):
 
 def put(output, text):
     """Writes the page to a file, whole or not at all, or to what is there and is none, such as a pipe."""
+    # (os.path: of what the caller may not look at, or a link that leads to itself, Path raises errors of its own)
     if os.path.exists(output) and not os.path.isfile(output):
         with open(output, "w", encoding="utf-8") as out:
             out.write(text)

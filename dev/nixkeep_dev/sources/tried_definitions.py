@@ -28,6 +28,7 @@ def changes_of(edit):
     """The changes of an edit by the crate that they are of, with the files' paths in it."""
     by_crate = {}
     for file, old, new in edit.pairs:
+        # (normpath: of crate `laws` they lead to other crates by `..`, which Path leaves)
         at = os.path.normpath(f"{edit.crate}/{file}")
         by_crate.setdefault(at.split("/")[0], []).append((at.partition("/")[2], old, new))
     return by_crate
