@@ -36,6 +36,8 @@ ALLOWS = ("dev/nixkeep_dev/sources/copies.py:", "tests/package/clean_machine.py:
 NOT_PLANTED = ("tests/compare/nix_archives.py", "tests/compare/nix_derivations.py", "tests/tools/test_snapshot.py")
 # Parameters of types, and digits in base 16, aren't citations.
 NO_CITATION = r"<[A-Z][0-9]?|[A-Z][0-9]?>|0x"
+# Names that don't say what a thing is.
+NO_NAMES = {"it", "found", "asked", "told", "beside", "goes_wrong"}
 
 
 def holding(pattern):
@@ -331,3 +333,38 @@ def test_columns():
 def test_hinted():
     """Functions that another module calls have type hints."""
     return hints.faults(of_language("python"))
+
+
+@finds_nothing
+def test_names():
+    """No parameter, variable or function has a name that doesn't say what it is."""
+    for path in of_language("python"):
+        yield from [f"{path}:{node.lineno}: what is {name_in(node)!r}?" for node in ast.walk(ast.parse(text_of(path)))
+                    if name_in(node) in NO_NAMES]
+
+
+def name_in(node):
+    """The name that a node gives, if it gives one."""
+    if isinstance(node, ast.Name):
+        return node.id if isinstance(node.ctx, ast.Store) else None
+    return node.arg if isinstance(node, ast.arg) else getattr(node, "name", None)
+
+
+@finds_nothing
+def test_paths():
+    """A comment says why Path won't do where a script uses os.path: in the function, before that, or above all
+    functions."""
+    for path in of_language("python"):
+        yield from [f"{path}:{line}: why isn't it Path?" for line in unexplained(text_of(path))]
+
+
+def unexplained(text):
+    """The lines with os.path before which no comment is."""
+    lines, nodes = text.split("\n"), [*ast.walk(ast.parse(text))]
+    begins = sorted(node.lineno for node in nodes if isinstance(node, ast.FunctionDef | ast.AsyncFunctionDef))
+    if not any(re.match("#.*(os.path|Path)", line) for line in lines[: begins[0] if begins else None]):
+        for node in nodes:
+            if isinstance(node, ast.Attribute) and ast.unparse(node) == "os.path":
+                begin = max([0, *(line for line in begins if line <= node.lineno)])
+                if not any(line.strip().startswith("#") for line in lines[begin : node.lineno]):
+                    yield node.lineno

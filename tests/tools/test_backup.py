@@ -358,7 +358,7 @@ def test_what_a_failing_test_prints(script, capfd):
 
 
 @pytest.mark.parametrize("report", ["", "total 6 7\n", "total 7 8\n"])
-def test_a_report_that_is_not_of_the_rows(report, folder, monkeypatch):
+def test_a_report_that_is_not_of_the_rows(report, monkeypatch):
     monkeypatch.setattr(backup_file, "rows", lambda _: (7, 7))
     monkeypatch.setattr(backup_file, "explain", lambda *_: None)
     monkeypatch.setattr(backup_file, "reported", lambda *_: report)

@@ -228,7 +228,7 @@ def test_what_the_head_of_an_import_says():
             assert cache_large.said(head, key) == (match[1] if match else ""), head
 
 
-def test_heads_of_large_imports_have_room(folder):
+def test_heads_of_large_imports_have_room():
     """Who isn't trusted sends no head of a large import, and those of others have a bounded part of the memory."""
     reading, denied = [], []
 
@@ -630,7 +630,7 @@ def test_pointers_are_listed_once_at_a_time():
     assert most == [1] * 10
 
 
-def test_a_long_listing_of_pointers_has_room(monkeypatch):
+def test_a_long_listing_of_pointers_has_room():
     """As other long replies have it, since a client may take it slowly."""
     pointer, had = pointers.Pointer("/nix/store/x", bytes(32), 1, bytes(32), 1), []
 
@@ -916,7 +916,7 @@ def test_an_upload_that_is_broken_off_is_unpacked_no_further(folder):
 
 
 @pytest.mark.needs("python3-zstandard")
-def test_the_last_bytes_of_an_upload_are_unpacked_in_time(folder, monkeypatch):
+def test_the_last_bytes_of_an_upload_are_unpacked_in_time(monkeypatch):
     """An upload that has come, and is unpacked for longer than a proxy waits, is refused, and its work ends."""
     from nixkeep_tools import cache_blobs
 

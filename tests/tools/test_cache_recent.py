@@ -9,6 +9,7 @@ import signal
 import subprocess
 import types
 from pathlib import Path
+from unittest import mock
 
 import pytest
 
@@ -165,19 +166,13 @@ class Place:
 
     async def open(self):
         self.reader = asyncio.StreamReader()
-        return self.reader, self
+        return self.reader, mock.Mock(asyncio.StreamWriter, write=self.write, is_closing=lambda: False)
 
     def write(self, _):
         status = self.statuses.pop(0)
         self.reader.feed_data(f"HTTP/1.1 {status} x\r\ncontent-type: text/plain\r\ncontent-length: 0\r\n\r\n".encode())
 
-    async def drain(self):
-        pass
-
-    def is_closing(self):
-        return False
-
-    def close(self, *_):
+    def close(self, _):
         pass
 
 

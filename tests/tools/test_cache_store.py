@@ -19,6 +19,7 @@ import tracemalloc
 import zlib
 from concurrent.futures import ThreadPoolExecutor
 from pathlib import Path
+from unittest import mock
 
 import pytest
 
@@ -777,18 +778,9 @@ def test_a_server_that_hangs():
             await asyncio.sleep(0.3)
             reader, text = asyncio.StreamReader(), NOTHING if self.opened > 1 else b""
             reader.feed_data(2 * text)
-            return reader, self
+            return reader, mock.Mock(asyncio.StreamWriter, is_closing=lambda: False)
 
-        def write(self, data):
-            pass
-
-        async def drain(self):
-            pass
-
-        def is_closing(self):
-            return False
-
-        def close(self, *_):
+        def close(self, _):
             pass
 
     async def run():

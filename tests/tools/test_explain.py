@@ -284,7 +284,7 @@ def test_the_head_of_a_log(magic, size, page):
     assert store_file.page_of_log(head[:31]) is store_file.page_of_log(head[:31] + bytes([head[31] ^ 1])) is None
 
 
-def test_the_log_of_a_link(nixkeep, path, folder):
+def test_the_log_of_a_link(path, folder):
     """It is next to the target of the link. What is no file there isn't waited for."""
     os.mkdir(f"{folder}/links")
     os.symlink(path, link := f"{folder}/links/store.db")

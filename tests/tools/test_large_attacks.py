@@ -83,7 +83,7 @@ def starts(team):
     return has_started, Path(f"{team.folder}/start").read_text()
 
 
-def test_links_in_the_folder_of_the_blobs(team_of, folder):
+def test_links_in_the_folder_of_the_blobs(team_of):
     """Whoever may write the folder of the blobs leads nixkeep-cache to no other file."""
     with team_of() as team:
         assert team("ann", "POST", "/text", cached.text("kept"))[0] == 200, "an object"

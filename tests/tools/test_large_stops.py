@@ -33,7 +33,7 @@ def team(program, folder):
         yield made
 
 
-def test_a_damaged_blob(team, rng, folder):
+def test_a_damaged_blob(team, rng):
     """A blob that is gone or differs: an error by name, a line in the log, and never a short success."""
     archive, path = archive_of(rng), some_path(rng, "damaged")
     team.upload(path, archive)
@@ -106,7 +106,7 @@ def test_uploads_at_once(team, rng):
     is_sound(team)
 
 
-def test_clients_that_leave(team, rng, program):
+def test_clients_that_leave(team, rng):
     """Clients that leave in the middle."""
     archive, path = archive_of(rng, 5_000_000), some_path(rng, "left")
     name = nar.digest(archive)

@@ -64,7 +64,7 @@ def test_archives_that_come_and_go_and_fail(team, rng):
 
 
 @needs_metrics
-def test_a_sweep(team, rng, folder):
+def test_a_sweep(team, rng):
     """What a sweep has deleted and left, also after a restart."""
     unused = archive_of(rng)
     assert team.put(unused)[0] == 201, "an archive without a record"

@@ -170,7 +170,7 @@ class Large:
             cache_changes.note(request, head)
             return await self.import_pieces(request, head, again(first, given), request.content_length)
 
-    async def import_whole(self, request, _, data):
+    async def import_whole(self, request: web.Request, _: object, data: bytes) -> web.StreamResponse | None:
         """The reply to an import with a large archive, or None for another one, which the store does. Raises
         Answered."""
         end = data.find(b"\n\n") + 2

@@ -5,15 +5,8 @@ import os
 import sqlite3
 import sys
 
-from . import cache_server, overview_page, overview_source, paths, store_file, version, whole_file
+from . import cache_listening, cache_server, overview_page, overview_source, paths, store_file, version, whole_file
 from .overview import Overview
-
-
-def place(text):
-    host, colon, port = text.rpartition(":")
-    if not (host and port.isdigit()):
-        raise argparse.ArgumentTypeError(f"{text}: HOST:PORT is meant")
-    return host, int(port)
 
 
 def parser():
@@ -22,7 +15,7 @@ def parser():
     version.add_to(top)
     where = top.add_mutually_exclusive_group(required=True)
     where.add_argument("--db", metavar="FILE", help="the file of a store that no server has open")
-    where.add_argument("--store", type=place, metavar="HOST:PORT", help="the server of a store")
+    where.add_argument("--store", type=cache_listening.place, metavar="HOST:PORT", help="the server of a store")
     top.add_argument("--user", help="the caller, for --store")
     top.add_argument("--group", help="the primary group of the caller")
     top.add_argument("--config", metavar="FILE",
