@@ -352,19 +352,19 @@ def name_in(node):
 
 @finds_nothing
 def test_paths():
-    """A comment says why Path won't do where a script uses os.path: in the function, before that, or above all
-    functions."""
+    """A comment says why Path won't do where a script uses os.path: before that in the function, or above all
+    functions. It names one of the two, or what is called."""
     for path in of_language("python"):
         yield from [f"{path}:{line}: why isn't it Path?" for line in unexplained(text_of(path))]
 
 
 def unexplained(text):
-    """The lines with os.path before which no comment is."""
+    """The lines that call os.path without such a comment."""
     lines, nodes = text.split("\n"), [*ast.walk(ast.parse(text))]
     begins = sorted(node.lineno for node in nodes if isinstance(node, ast.FunctionDef | ast.AsyncFunctionDef))
-    if not any(re.match("#.*(os.path|Path)", line) for line in lines[: begins[0] if begins else None]):
-        for node in nodes:
-            if isinstance(node, ast.Attribute) and ast.unparse(node) == "os.path":
-                begin = max([0, *(line for line in begins if line <= node.lineno)])
-                if not any(line.strip().startswith("#") for line in lines[begin : node.lineno]):
-                    yield node.lineno
+    says_why = lambda name, begin, end: re.search(rf"#.*(\bPath\b|\bos\.path|{name}:)", "\n".join(lines[begin:end]))
+    for node in nodes:
+        if isinstance(node, ast.Attribute) and ast.unparse(node.value) == "os.path":
+            begin = max([0, *(line for line in begins if line <= node.lineno)])
+            if not (says_why(node.attr, 0, begins[0] if begins else None) or says_why(node.attr, begin, node.lineno)):
+                yield node.lineno

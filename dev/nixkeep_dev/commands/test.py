@@ -27,6 +27,7 @@ tests/gate/skips.txt names it; .ci/run sets that. `bin/run tests/compare/sqlite.
 module, and bin/run runs it with them.
 """
 import os
+import re
 import sys
 from pathlib import Path
 
@@ -55,7 +56,9 @@ def by_itself(part, known):
 def named(part, names):
     """The words by which pytest chooses what has these names: crates, or some words of a planted fault's name."""
     of_one = {"bodies": "[{}/", "plant": "[{}]", "sabotage": "({})"}[part]
-    return ["-k", " or ".join(of_one.format(" and ".join(name.split())) for name in names)] if names else []
+    # (pytest takes no apostrophe here, and these three words as its own)
+    words = [[word for word in re.findall(r"[\w:+./-]+", name) if word not in ("and", "or", "not")] for name in names]
+    return ["-k", " or ".join(of_one.format(" and ".join(of_name)) for of_name in words)] if names else []
 
 
 def whole_part(words):

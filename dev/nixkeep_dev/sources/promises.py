@@ -27,7 +27,7 @@ def cell(calls):
     """The cell of some calls: what they begin with is written once."""
     if len(calls) == 1:
         return f"`{calls[0]}`"
-    # (it is of any texts, and they needn't be paths)
+    # (commonprefix: it is of any texts, and they needn't be paths)
     prefix = os.path.commonprefix(calls).rpartition("::")[0] + "::"
     return f"`{prefix}{{{', '.join(call.removeprefix(prefix) for call in calls)}}}`"
 
