@@ -37,7 +37,7 @@ def is_script(name):
     """Whether a file can be run, or is a module that bin/run starts. What only a test starts is left out, and the
     launcher: its words are those of the program."""
     file = Path(program.HERE, name)
-    if "/cases/tools/" in name or name == "bin/nixkeep" or not file.is_file():
+    if "/cases/steps/" in name or name == "bin/nixkeep" or not file.is_file():
         return False
     is_module = re.fullmatch(r"bench/\w+\.py|tests/\w+/\w+\.py", name)
     return os.access(file, os.X_OK) or bool(is_module) and (

@@ -19,7 +19,7 @@ from nixkeep_dev.testing import runs
 from nixkeep_dev.testing.cases import steps_of
 
 COPIED = ("bin/run", "dev", "pyproject.toml", "tests/conftest.py", "tests/__init__.py", "tests/packages.txt",
-          "tests/cases/prelude.sh", "tests/cases/tools", "tests/cases/who.txt")
+          "tests/cases/prelude.sh", "tests/cases/steps", "tests/cases/who.txt")
 # A case with a step of each kind.
 CASE = """One of each kind.
 

@@ -1,1 +1,1 @@
-"""Commands for the steps of cases: tests/cases/tools has a program for each."""
+"""Commands for the steps of cases: tests/cases/steps has a program for each."""

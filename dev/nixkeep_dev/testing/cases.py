@@ -134,7 +134,7 @@ def shown(output, errors, status):
 def environment(room):
     """What the steps see: the program and the tools of the cases, before those of the system, and a port that no other
     case or script chooses meanwhile."""
-    path = [f"{room}/bin", f"{CASES}/tools", "/usr/local/bin", "/usr/bin", "/bin", str(Path(sys.executable).parent)]
+    path = [f"{room}/bin", f"{CASES}/steps", "/usr/local/bin", "/usr/bin", "/bin", str(Path(sys.executable).parent)]
     places = {"HOME": f"{room}/work", "STEPS": f"{room}/steps", "PRELUDE": f"{CASES}/prelude.sh"}
     return {**places, "PATH": ":".join(path), "LANG": "C.UTF-8", "FREE_PORT": str(free_port())}
 
