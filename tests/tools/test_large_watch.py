@@ -66,25 +66,29 @@ def test_archives_that_come_and_go_and_fail(team, rng):
 @needs_metrics
 def test_a_sweep(team, rng):
     """What a sweep has deleted and left, also after a restart."""
-    unused = archive_of(rng)
+    unused, used = archive_of(rng), archive_of(rng)
+    assert team.upload(some_path(rng, "used"), used)[0] == 200, "an archive with a record"
     assert team.put(unused)[0] == 201, "an archive without a record"
+    blobs = {*Path(team.blobs).glob("??/*")}
     size, old = team.file(unused).stat().st_size, time.time() - 100_000
     team.end()
-    for path in Path(team.blobs).glob("??/*"):
+    for path in blobs:
         os.utime(path, (old, old))
     team.start()
     assert team.tool("sweep", "--dry-run")[0] == 0, "a sweep that is dry"
     assert figures(team, "sweep_timestamp_seconds", "sweep_deleted_total") == [None, 0], "is none"
     began = time.time()
     assert team.tool("sweep")[0] == 0, "a sweep"
-    left = [path.stat().st_size for path in Path(team.blobs).glob("??/*")]
+    left = {*Path(team.blobs).glob("??/*")}
+    assert blobs - left == {team.file(unused)} and left < blobs and team.file(used) in left
+    what_is_left = [len(left), sum(path.stat().st_size for path in left)]
     assert (figures(team, "sweep_deleted_total", "sweep_deleted_bytes_total", "sweep_left", "sweep_left_bytes") ==
-            [1, size, 2, sum(left)]), "one was deleted, and two are left"
+            [1, size, *what_is_left]), "one was deleted, and the others are left"
     last = figures(team, "sweep_timestamp_seconds")[0]
     assert began <= last <= time.time(), ("it has its time", (began, last))
     team.end()
     team.start()
-    assert figures(team, "sweep_timestamp_seconds", "sweep_left", "sweep_left_bytes") == [last, 2, sum(left)], (
+    assert figures(team, "sweep_timestamp_seconds", "sweep_left", "sweep_left_bytes") == [last, *what_is_left], (
         "a restart forgets neither it nor what is left")
     team.end()
     Path(f"{team.folder}/waiting/swept.json").write_text('["x"]')

@@ -170,9 +170,10 @@ def change_files(fault: Fault, top: str) -> None:
 
 
 def gone_of(fault: Fault, top: str) -> list[str]:
-    """What a fault changes and isn't in the repository: a file, or a text that isn't there once."""
+    """What a fault changes and isn't in the repository: a file, or a text that isn't there once; or what gets no other
+    text."""
     gone, file = [], None
-    for key, text in fault.changes:
+    for (key, text), (after, _) in zip(fault.changes, [*fault.changes[1:], (None, None)]):
         path = text.split()[-1] if key in ("gone", "mode", "first") else text
         if key in ("file", "gone", "mode", "first") and not Path(f"{top}/{path}").exists():
             gone.append(f"there is no {path}")
@@ -180,6 +181,7 @@ def gone_of(fault: Fault, top: str) -> list[str]:
         if key == "old" and Path(top, file).exists():
             seen = Path(top, file).read_bytes().count(text.encode())
             gone += [f"{file} has {text!r} {seen} times"] if seen != 1 else []
+            gone += [f"{text!r} has no `new:` after it, which may be empty"] if after != "new" else []
     return gone
 
 
