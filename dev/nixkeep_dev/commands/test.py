@@ -61,10 +61,14 @@ def named(part, names):
     return ["-k", " or ".join(of_one.format(" and ".join(of_name)) for of_name in words)] if names else []
 
 
+def page_of(case):
+    return f"{CASES}/{case.removesuffix('.txt')}.txt"
+
+
 def whole_part(words):
     """The file that runs a part, and the names that are given to it; the files of cases."""
     if words.part == "cases":
-        return [f"{CASES}/{name.removesuffix('.txt')}.txt" for name in words.names] or [CASES]
+        return [page_of(name) for name in words.names] or [CASES]
     return [file_of(f"gate/{BY_THEMSELVES[words.part]}"), *named(words.part, words.names)]
 
 
@@ -72,6 +76,8 @@ def run_part(words, parser):
     of_crates = {"bodies": bodies.having, "plant": plants.listed}
     if unknown := [name for name in words.names if words.part in of_crates and name not in of_crates[words.part]()]:
         parser.error(f"{words.part}: no crate {' '.join(unknown)}")
+    if unknown := [name for name in words.names if words.part == "cases" and not Path(page_of(name)).exists()]:
+        parser.error(f"no {' '.join(unknown)} in cases")
     if words.part == "plant" and not words.names:
         parser.error("plant: name a crate")
     program = words.program and str(Path(words.program).absolute())
