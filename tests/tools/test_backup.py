@@ -507,15 +507,15 @@ def copied_at(folder, monkeypatch, times):
     return sorted(os.listdir(folder))
 
 
-def days_from(day, count):
-    return [day + datetime.timedelta(days=at) for at in range(count)]
+def nine_days_from(day):
+    return [day + datetime.timedelta(days=at) for at in range(9)]
 
 
 @pytest.mark.parametrize("wrong", [FIRST + datetime.timedelta(days=400), datetime.datetime(2000, 1, 1)],
                          ids=["ahead", "behind"])
 def test_copies_of_a_clock_that_was_wrong(wrong, folder, monkeypatch):
     """The copies of each day are kept as without those of the wrong clock: while it is wrong, and once it is right."""
-    before, meanwhile, after = days_from(FIRST, 9), days_from(wrong, 9), days_from(FIRST + datetime.timedelta(18), 9)
+    before, meanwhile, after = map(nine_days_from, (FIRST, wrong, FIRST + datetime.timedelta(18)))
     names = lambda times: {moment.strftime(backup_folder.FORM) for moment in times}
     copied_at(folder, monkeypatch, before)
     assert names(meanwhile[-7:]) < {*copied_at(folder, monkeypatch, meanwhile)}

@@ -148,8 +148,9 @@ class Input:
             raise Stop("failed: input")
 
 
-def is_terminal(number: int = 2) -> bool:
+def is_terminal() -> bool:
+    """Whether standard error is one; a closed one isn't."""
     try:
-        return os.isatty(number)
+        return os.isatty(2)
     except OSError:
         return False

@@ -99,9 +99,9 @@ def collections():
     yield flags, ["denied: no-ignore-liveness\n"] * 2
 
 
-def triangle(config=b""):
+def triangle():
     """A store in which two paths refer to a third."""
-    worked = Worked(config)
+    worked = Worked()
     for base, *references in [P], [X, P], [Y, P]:
         worked.add(base, *references)
     return worked

@@ -95,19 +95,19 @@ def exports(crate):
         yield module, None
 
 
-def calls_of(crate: str, shown: str | None = None) -> dict[str, list]:
+def calls_of(crate: str) -> dict[str, list]:
     """The calls of a crate by name, each with its clauses, in the order of its root file."""
-    shown, calls = shown or crate, {}
+    calls = {}
     for module, name in exports(crate):
         first = module.split("::")[0]
         if name is None:
             path = f"crates/{crate}/src/{module}.rt"
-            calls |= {f"{shown}::{module}::{function}": clauses
+            calls |= {f"{crate}::{module}::{function}": clauses
                       for owner, function, clauses in functions_in(path) if not owner}
         elif exists(f"crates/{crate}/src/{first}.rt"):
-            calls |= dict(declared(crate, module, name, shown))
+            calls |= dict(declared(crate, module, name, crate))
         elif first not in PUBLIC and exists(f"crates/{first}/src/lib.rt"):
-            calls |= dict(passed_on(first, module.partition("::")[2], name, shown))
+            calls |= dict(passed_on(first, module.partition("::")[2], name, crate))
     return {call: clauses for call, clauses in calls.items() if clauses}
 
 
