@@ -23,8 +23,9 @@ from nixkeep_dev.testing.tracked import git, is_script, of_language, text_of, tr
 
 HERE = program.HERE
 ITSELF = "tests/gate/checks.py"
-# What may set the path of Python: the commands, what is installed, and an example that finds the installed tools.
-SET_PATH = ("bin/", "tools/", "examples/team/parts.py")
+# What may set the path of Python: the commands, two tools that PYTHONSAFEPATH would keep from their modules, and an
+# example that finds the installed tools.
+SET_PATH = ("bin/", "tools/nixkeep-cache", "tools/nixkeep-overview", "examples/team/parts.py")
 GRAMMAR = "crates/tool_words/src/grammar.rt"
 MACHINE = r"(^|[^A-Za-z0-9_.-])/(work|farm|opt|home|Users)/"
 CITATION = (r"\b(T[1-5]|D([1-9]|1[0-9]|2[0-2])|W([1-9]|[12][0-9]|3[0-6])|R([1-9]|1[0-5]))\b"
@@ -307,8 +308,7 @@ def test_scripts_by(language, words):
 
 @finds_nothing
 def test_imports():
-    """Only the commands of bin/, and what is installed, set the path of Python, and no module has the name of one of
-    the standard library."""
+    """Only what SET_PATH has sets the path of Python, and no module has the name of one of the standard library."""
     for path in of_language("python"):
         if path.endswith(".py") and Path(path).stem in sys.stdlib_module_names:
             yield f"{path} has the name of a module of the standard library"
