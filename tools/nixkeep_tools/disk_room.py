@@ -11,7 +11,7 @@ LEFT = 64 << 20
 def demand(size: int, path: str, left: int = LEFT) -> None:
     """Raises Stop where the disk of a path has no room for `size` bytes and `left` more, which a store needs to go on.
     """
-    folder = Path(path).absolute().parent
+    folder = str(Path(path).absolute().parent)
     seen = os.statvfs(folder)
     # (some file systems don't say how large they are)
     if seen.f_blocks and (free := seen.f_bavail * seen.f_frsize) < size + left:
