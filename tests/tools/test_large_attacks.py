@@ -115,7 +115,7 @@ def test_links_in_the_folder_of_the_blobs(team_of):
         assert len(team("ann", "GET", "/paths")[1].split()) == 1, "the store is what it was"
 
 
-def test_what_is_no_file_in_the_place_of_a_blob(rng, team_of):
+def test_what_is_no_file_in_the_place_of_a_blob(rng, team_of, folder):
     """What isn't a file in the place of a blob holds up nobody, and a sweep goes on after it."""
     with team_of() as team:
         archive = archive_of(rng)
@@ -127,12 +127,11 @@ def test_what_is_no_file_in_the_place_of_a_blob(rng, team_of):
         assert team("ann", "GET", target, None, "--max-time", "60")[0] == 502, "a pipe is no blob"
         assert team.import_("build", archive, "--max-time", "60")[0] == 200, "an upload replaces it"
         is_sound(team)
-        file.unlink()
-        file.symlink_to(file)
+        file.symlink_to(file.rename(f"{folder}/elsewhere"))
         status, lines = team.verify()
         named = any(line.startswith(f"damaged {file.name[:52]} ") for line in lines)
         assert status == 1 and named and lines[-1].startswith("verified "), (
-            "verify names a blob that can't be read", lines)
+            "verify names a link, also one to the bytes of the blob", lines)
         file.unlink()
         unused = sorted((archive_of(rng) for _ in range(5)), key=lambda other: team.file(other).name)
         assert {team.put(other)[0] for other in unused} == {201}, "archives whose records never come"

@@ -103,7 +103,9 @@ def run_without_toolchain(words):
     runs = parts.side_by_side(tried)
     names = ", ".join(part.name for part, ran in zip(tried, runs) if not ran)
     left_out = [f"proofs, wrong bodies, {names}: they need the Rattle toolchain, and `bin/test all` runs them",
-                "a clean Debian and a booted machine take minutes: `bin/test package` and `bin/test team units`"]
+                "a clean Debian and a booted machine take minutes: `bin/test package` and `bin/test team units`",
+                "planted faults and the lines of the tools that tests run take hours: `bin/test sabotage` and `bin/test"
+                " gate coverage`", "a closure of over 2 GiB and Swift: `bin/test team try_large swift`"]
     return together([ran for ran in runs if ran], left_out=left_out, may_skip=not words.no_skips)
 
 

@@ -24,7 +24,8 @@ ALONE = "#!/usr/bin/python3 -ES\n"
 COVERAGE = "/usr/lib/python3/dist-packages/coverage"
 # How tests/gate/coverage.txt calls the part of the lines that all tests run, and that which one runs.
 OF_ALL, OF_ONE = "percent of the lines of tools", "percent that {} runs"
-NO_TOOL = ("test_launcher", "test_package", "test_package_scripts", "test_release", "test_bench", "test_units")
+NO_TOOL = ("test_bench", "test_gate", "test_launcher", "test_package", "test_package_scripts", "test_release",
+           "test_units")
 
 
 def copied(top: str) -> str:
