@@ -1,5 +1,5 @@
 """Tests what `bin/test` and `bin/test all` run, and when they fail. Nothing is proved or tried: a stand-in notes each
-script that would be started, which has passed unless a test says otherwise."""
+script that would be started, which has passed unless a test says otherwise. A planted fault has to be a whole one."""
 import re
 import sys
 import types
@@ -9,7 +9,7 @@ import pytest
 
 from nixkeep_dev.build.program import HERE
 from nixkeep_dev.commands import gate, test
-from nixkeep_dev.testing import parts, report, runs, skips
+from nixkeep_dev.testing import parts, report, runs, sabotage, skips
 
 # What `bin/test all` leaves to be run by hand, and what `bin/test` leaves to `bin/test all` besides.
 BY_HAND = {"examples/team/try_large", "tools/try_swift"}
@@ -119,3 +119,16 @@ def test_another_program_than_the_released_one_fails(status, monkeypatch):
 def test_more_minutes_than_there_may_be_fail(status, monkeypatch):
     monkeypatch.setattr(gate, "spent", lambda: 60 * (test.BUDGET + 1))
     assert status(*of_ci()) == 1
+
+
+@pytest.mark.parametrize("keys, is_whole", [
+    ("file old new part", True), ("file old new gone part", True), ("file old part", False), ("file part", False),
+    ("old new part", False), ("bytes become part", True), ("bytes become bytes part", False), ("ahead part", True),
+    ("part", False), ("ahead", False)])
+def test_a_fault_that_plants_nothing_is_refused(keys, is_whole):
+    lines = [(key, "text") for key in keys.split()]
+    if is_whole:
+        assert sabotage.Fault("whole", lines).part == ["text"]
+    else:
+        with pytest.raises(report.Failed):
+            sabotage.Fault("not whole", lines)

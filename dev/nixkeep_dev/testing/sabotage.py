@@ -18,6 +18,9 @@ TABLE, COSTS = f"{FOLDER}/faults.txt", f"{FOLDER}/costs.txt"
 # The processor seconds of a part that has no line in the file of these.
 UNKNOWN = 20
 KEYS = ("file", "old", "new", "gone", "mode", "first", "bytes", "become", "ahead", "part", "excused")
+# What a change is, by the key with which it begins: all of its keys, in their order.
+WHOLE = {"file": ["file", "old", "new"], "bytes": ["bytes", "become"],
+         **{key: [key] for key in ("gone", "mode", "first", "ahead")}}
 STRICT = ["-O1", "-Wall", "-Wextra", "-Werror"]
 
 
@@ -28,8 +31,15 @@ class Fault:
         self.name, self.changes = name, [line for line in lines if line[0] not in ("part", "excused")]
         named = dict(lines)
         self.part, self.excused = shlex.split(named.get("part", "")), named.get("excused")
-        if not self.part or not self.changes:
-            report.fail(f"{TABLE}: {name}: a fault has a change and a part")
+        if not self.part or not self.is_whole():
+            report.fail(f"{TABLE}: {name}: a fault has a whole change and a part")
+
+    def is_whole(self) -> bool:
+        """Whether there is a change, and each has all of its keys: else nothing would be planted."""
+        left = [key for key, _ in self.changes]
+        while left and left[: len(whole := WHOLE.get(left[0], [None]))] == whole:
+            left = left[len(whole):]
+        return bool(self.changes) and not left
 
     def is_of_program(self) -> bool:
         return self.changes[0][0] in ("bytes", "ahead")
