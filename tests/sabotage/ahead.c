@@ -115,6 +115,16 @@ int close(int fd) {
 }
 #endif
 
+#ifdef FAULT_HELD_UP
+/* (a minute after each connection that its client has given up) */
+int shutdown(int fd, int how) {
+  NEXT(shutdown);
+  int done = next(fd, how);
+  if (done) sleep(60);
+  return done;
+}
+#endif
+
 #ifdef FAULT_MEMORY_LOST
 static char *volatile lost;
 int accept4(int fd, struct sockaddr *from, socklen_t *size, int how) {
