@@ -1,14 +1,16 @@
 """Installs, uses and removes the package on a clean Debian, in a folder.
 
 mmdebstrap makes the clean system of the packages that this machine's apt finds, with apt, python3, man and bash
-completion. apt installs the package there; `who` answers, all cases run by the installed program, each manual page is
-found and shown, and bash completes. Then apt upgrades it to itself, removes and purges it, and nothing is left but the
-store, which the user has made. lintian says nothing of the package, but for what packaging/lintian-overrides excuses
-with a reason. `--root FOLDER` names such a system that was made before, which is copied. Needs root, mmdebstrap and
-lintian, and skips what needs what isn't there.
+completion. apt installs the package there; `who` answers, the installed program runs all steps of cases that need no
+more than this system has (the last lines say how many do), each manual page is found and shown, and bash completes.
+Then apt upgrades it to itself, removes and purges it, and nothing is left but the store, which the user has made.
+lintian says nothing of the package, but for what packaging/lintian-overrides excuses with a reason. `--root FOLDER`
+names such a system that was made before, which is copied. Needs root, mmdebstrap and lintian, and skips what needs what
+isn't there.
 """
 import contextlib
 import os
+import re
 import shutil
 import subprocess
 from pathlib import Path
@@ -124,9 +126,13 @@ def test_who(machine):
 
 
 def test_cases_by_the_installed_program(machine):
+    """The steps that need what isn't there run on this machine, among the cases."""
     cases = "cd /checkout && exec python3 -B bin/run tests/cases --program /usr/bin/nixkeep"
     said = machine.well("sh", "-c", cases)
-    report.passes(int(said.splitlines()[-1].split()[0]))
+    passed, skipped = re.fullmatch(r"(\d+) passed, 0 failed(?:, (\d+) skipped)?", said.splitlines()[-1]).groups()
+    report.passes(int(passed))
+    lacking = sorted({*re.findall(r"^skipped: .* without (.*)$", said, re.M)})
+    report.ends_with(f"{skipped or 0} steps of cases aren't run on the clean Debian: {', '.join(lacking)}")
 
 
 @pytest.mark.parametrize("page", sorted(os.listdir(f"{HERE}/man")))

@@ -1,13 +1,14 @@
 """The one door to the tests of nixkeep. The last line is `N passed, M failed`, and what was skipped is listed above it.
 
   bin/test                      all that needs no toolchain, on the program that bin/nixkeep runs: the checks of the
-                                repository, cases, comparisons and tests of the tools; of the faults, and of the cases
-                                over a server, a part that changes from day to day
+                                repository, cases and tests of the tools; of the comparisons, of the faults and of the
+                                cases over a server, a part that changes from day to day
   bin/test all                  what .ci/run does: the checks of the repository, the proofs of all crates that the
                                 toolchain hasn't kept, their tests and programs, a comparison of the program with the
                                 released one, and then all of the above on the program that was built, the wrong bodies
-                                and definitions of tests/gate/mistakes.txt, and by the day others of these, planted
-                                faults, and the wrong bodies that `rt plant` makes of a crate
+                                and definitions of tests/gate/mistakes.txt, those of `laws` and of crates that differ
+                                from tests/gate/tried.txt, and by the day others of these, planted faults, the coverage
+                                of some tools, and the wrong bodies that `rt plant` makes of a listed crate
   bin/test cases [CASE..]       the cases: command lines and what they print
   bin/test compare [NAME..]     the program next to Nix, SQLite, curl, itself and a model of it
   bin/test faults [NAME..]      refused memory, failing streams, stops at each write, cut heads, hostile clients: all
@@ -104,8 +105,9 @@ def run_without_toolchain(words):
     names = ", ".join(part.name for part, ran in zip(tried, runs) if not ran)
     left_out = [f"proofs, wrong bodies, {names}: they need the Rattle toolchain, and `bin/test all` runs them",
                 "a clean Debian and a booted machine take minutes: `bin/test package` and `bin/test team units`",
-                "planted faults and the lines of the tools that tests run take hours: `bin/test sabotage` and `bin/test"
-                " gate coverage`", "a closure of over 2 GiB and Swift: `bin/test team try_large swift`"]
+                "planted faults and coverage take hours: `bin/test sabotage` and `bin/test gate coverage`",
+                "most benchmarks, a closure of over 2 GiB and Swift: `bin/test tools bench`, `bin/test team try_large"
+                " swift`"]
     return together([ran for ran in runs if ran], left_out=left_out, may_skip=not words.no_skips)
 
 
