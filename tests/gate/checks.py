@@ -32,9 +32,8 @@ CITATION = (r"\b(T[1-5]|D([1-9]|1[0-9]|2[0-2])|W([1-9]|[12][0-9]|3[0-6])|R([1-9]
             r"|[Dd]ocument 0[1-4]|[Pp]aper 0[1-4]|\b0[1-4] (§|section)")
 # Where a flag of this form is: one for copies of crates in which functions are only stated, and two of other programs.
 ALLOWS = ("dev/nixkeep_dev/sources/copies.py:", "tests/package/clean_machine.py:", "docs/OPERATING.md:")
-# What has no planted fault: two read what only the program of crates/bench writes, which the toolchain builds, and one
-# needs a mount namespace.
-NOT_PLANTED = ("tests/compare/nix_archives.py", "tests/compare/nix_derivations.py", "tests/tools/test_snapshot.py")
+# What has no planted fault: they read what only the program of crates/bench writes, which the toolchain builds.
+NOT_PLANTED = ("tests/compare/nix_archives.py", "tests/compare/nix_derivations.py")
 # Parameters of types, and digits in base 16, aren't citations.
 NO_CITATION = r"<[A-Z][0-9]?|[A-Z][0-9]?>|0x"
 # Names that don't say what a thing is.
