@@ -11,10 +11,12 @@
                                 of some tools, and the wrong bodies that `rt plant` makes of a listed crate
   bin/test cases [CASE..]       the cases: command lines and what they print
   bin/test compare [NAME..]     the program next to Nix, SQLite, curl, itself and a model of it
-  bin/test faults [NAME..]      refused memory, failing streams, stops at each write, cut heads, hostile clients: all
-  bin/test tools [NAME..]       the tests of the tools in tools/, the launcher and the release
-  bin/test team [NAME..]        a team's deployment in examples/team, its cache, its overview in a browser, hostile
-                                requests, and its units on a machine that is booted
+  bin/test faults [NAME..]      refused memory, failing streams, stops at each write, cut heads, hostile clients, a
+                                soak: all
+  bin/test tools [NAME..]       the tests of the tools in tools/, the launcher, the release, benchmarks, examples and
+                                of the tests
+  bin/test team [NAME..]        a team's deployment in examples/team, its cache, logins, its overview in a browser,
+                                hostile requests, its units on a machine that is booted, a large closure, and Swift
   bin/test package [NAME..]     the package, and a clean Debian on which it is installed, used and removed
   bin/test bodies [CRATE..]     all wrong bodies of crates
   bin/test plant CRATE..        wrong bodies that `rt plant` makes of crates: which of them the contracts accept
