@@ -607,6 +607,25 @@ def test_a_check_of_a_server_whose_unit_ends(store, units):
     assert (running.returncode, line) == (1, said)
 
 
+def test_looks_at_a_unit_where_systemctl_is_slow(monkeypatch):
+    """None begins within another one, so the check goes on. After it there is none."""
+    looks, most = [], []
+
+    def is_active(unit):
+        looks.append(unit)
+        most.append(len(looks))
+        time.sleep(0.2)
+        looks.pop()
+        return True
+
+    monkeypatch.setattr(backup_check, "is_active", is_active)
+    monkeypatch.setattr(backup_check, "LOOK", 0.05)
+    with backup_check.while_active("nixkeep@red.service"):
+        time.sleep(1)
+    assert len(most) > 2 and max(most) == 1
+    assert signal.getitimer(signal.ITIMER_REAL) == (0, 0)
+
+
 @pytest.mark.parametrize("unit, machine, swap, start, line", [
     ("infinity", 4_000, 0, 0, None), ("infinity", 3_999, 0, 0, "the machine has 3999 bytes"),
     ("infinity", 3_000, 1_000, 0, None), ("4000", 5_000, 0, 0, None),

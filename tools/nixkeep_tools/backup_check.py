@@ -127,20 +127,25 @@ def check(words: argparse.Namespace) -> None:
 def while_active(unit: str | None) -> Iterator[None]:
     """What is done here ends by Stop as soon as a unit runs no more, if there is one. Its next start waits for that of
     the copy, so whoever asks it would wait for a server that waits for them."""
+    delay = LOOK
 
-    def refuse(*_):
-        if not is_active(unit):
-            raise Stop(f"failed: unit: {unit} doesn't run, so nothing is copied")
+    def look(*_):
+        try:
+            if not is_active(unit):
+                raise Stop(f"failed: unit: {unit} doesn't run, so nothing is copied")
+        finally:
+            # (as long after this look: where systemctl is slow, the next one would begin within it)
+            signal.setitimer(signal.ITIMER_REAL, delay)
 
     if not unit:
         yield
         return
-    refuse()
-    before = signal.signal(signal.SIGALRM, refuse)
-    signal.setitimer(signal.ITIMER_REAL, LOOK, LOOK)
+    before = signal.signal(signal.SIGALRM, look)
     try:
+        look()
         yield
     finally:
+        delay = 0
         signal.setitimer(signal.ITIMER_REAL, 0)
         signal.signal(signal.SIGALRM, before)
 
