@@ -381,7 +381,9 @@ def test_a_store_that_changed_while_it_was_copied(what, folder, monkeypatch):
 
 # What may be in the place of the state of the last runs.
 STATES = {"nothing": lambda _: None, "half": lambda at: at.write_text("{"), "a list": lambda at: at.write_text("[]"),
-          "bytes": lambda at: at.write_bytes(b"\xff"), "a pipe": os.mkfifo, "a link": lambda at: at.symlink_to("none")}
+          "bytes": lambda at: at.write_bytes(b"\xff"), "a pipe": os.mkfifo, "a link": lambda at: at.symlink_to("none"),
+          "lists in lists": lambda at: at.write_text("[" * 60_000),
+          "a terabyte": lambda at: (at.touch(), os.truncate(at, 1 << 40))}
 
 
 @pytest.mark.parametrize("what", STATES)

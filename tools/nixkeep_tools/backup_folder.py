@@ -19,6 +19,8 @@ NEW = "new.db"
 ALL_NEW = [NEW, *(f"{NEW}-{suffix}" for suffix in ("wal", "shm", "journal"))]
 # What is kept: the newest copies, and the newest one of each of the latest days and weeks that have one.
 COPIES, DAYS, WEEKS = 7, 7, 13
+# The bytes that a state may have.
+STATE = 1 << 16
 
 
 def time_of(name: str) -> datetime.datetime | None:
@@ -119,8 +121,9 @@ def add(folder: str, make: Callable[[str], object]) -> tuple[str, list[str]]:
 
 
 def read_state(path: str) -> dict:
-    with contextlib.suppress(OSError, ValueError), store_file.opened(path) as file:
-        state = json.load(file)
+    """The state in a file, or an empty one: a service may put anything in its place."""
+    with contextlib.suppress(OSError, ValueError, RecursionError), store_file.opened(path) as file:
+        state = json.loads(file.read(STATE))
         return state if isinstance(state, dict) else {}
     return {}
 
