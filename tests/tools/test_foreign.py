@@ -8,7 +8,7 @@ import pytest
 
 from nixkeep_dev.build.program import HERE
 from nixkeep_dev.testing import nar, report
-from nixkeep_tools import blob_reading, blobs, http_client, objects, pointers, real_nix
+from nixkeep_tools import blob_reading, blobs, blobs_command, http_client, objects, pointers, real_nix
 from nixkeep_tools.failures import Stop
 from tests.tools import replies
 from tests.tools.servers import answering, ran
@@ -151,6 +151,24 @@ def test_escapes_elsewhere():
         assert not line.isprintable() and "\x1b" not in line
     with answering(lambda *_: (200, "application/octet-stream", ESCAPES)) as url:
         assert remote(url, "cat-nar", base(0)) == (0, ESCAPES), "an archive is printed as it is"
+
+
+@pytest.mark.needs("python3-aiohttp", "python3-jinja2")
+def test_escapes_in_what_an_overview_is_denied():
+    with answering(lambda *_: text(403, b"denied: x \x1b]0;owned\x07\n")) as url:
+        came = ran([f"{HERE}/tools/nixkeep-overview", "--store", url.removeprefix("http://"), "--user", "ann"])
+    assert came == (1, b"", b"nixkeep-overview: denied: x \\x1b]0;owned\\x07\n")
+
+
+@pytest.mark.needs("python3-aiohttp")
+def test_escapes_in_why_a_bucket_fails(monkeypatch, capfd):
+    def place_of(*_):
+        raise blobs.Failed("s3://b: \x9b2J\x1b[2J")
+
+    monkeypatch.setattr(blobs, "place_of", place_of)
+    with pytest.raises(SystemExit) as ended:
+        blobs_command.main(["verify", "--server", "http://127.0.0.1:1", "--user", "ann", "--blobs", "s3://b"])
+    assert (ended.value.code, capfd.readouterr().err) == (1, "nixkeep-cache: s3://b: \\x9b2J\\x1b[2J\n")
 
 
 @pytest.fixture

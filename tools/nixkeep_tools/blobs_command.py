@@ -114,5 +114,7 @@ def main(words: list[str]) -> NoReturn:
         streams.say(stop.line)
         status = stop.status
     except (OSError, ValueError, blobs.Failed) as error:
-        sys.exit(f"nixkeep-cache: {error}")
+        # (a bucket may have written it, for a terminal)
+        streams.say(f"nixkeep-cache: {error}")
+        status = FAILED
     sys.exit(status)

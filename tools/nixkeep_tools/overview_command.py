@@ -5,7 +5,9 @@ import os
 import sqlite3
 import sys
 
-from . import cache_listening, cache_server, overview_page, overview_source, paths, store_file, version, whole_file
+from . import (cache_listening, cache_server, overview_page, overview_source, paths, store_file, streams, version,
+               whole_file)
+from .failures import FAILED
 from .overview import Overview
 
 
@@ -67,7 +69,8 @@ def main(words: list[str] | None = None) -> None:
             put(said.output, text)
         else:
             print(text)
-    except (OSError, sqlite3.Error, ValueError, KeyError) as error:
-        sys.exit(f"nixkeep-overview: {error}")
-    except (overview_source.Denied, overview_source.Unreachable, paths.Malformed, store_file.Locked) as error:
-        sys.exit(f"nixkeep-overview: {error}")
+    except (OSError, sqlite3.Error, ValueError, KeyError, overview_source.Denied, overview_source.Unreachable,
+            paths.Malformed, store_file.Locked) as error:
+        # (a server may have written it, for a terminal)
+        streams.say(f"nixkeep-overview: {error}")
+        sys.exit(FAILED)
