@@ -12,6 +12,7 @@ import itertools
 import json
 import os
 import re
+import resource
 import shutil
 import signal
 import socket
@@ -1468,6 +1469,19 @@ def test_a_restore_of_what_a_service_has_left(names, store, restored):
     assert {entry: os.readlink(aside / entry) for entry in links} == links and os.stat(store.config).st_nlink == 1
     with store.opened() as ask:
         assert all_of(ask) == wanted
+
+
+def test_a_restore_next_to_many_files(store, good):
+    """A service may leave more of them than a process may have open."""
+    before, most = resource.getrlimit(resource.RLIMIT_NOFILE), max(map(int, os.listdir("/proc/self/fd"))) + 20
+    for number in range(most):
+        Path(store.folder, f"store.db-{number}").touch()
+    resource.setrlimit(resource.RLIMIT_NOFILE, (most, before[1]))
+    try:
+        aside = backup_restore.put(f"{store.to}/{store.copies()[0]}", store.folder)
+    finally:
+        resource.setrlimit(resource.RLIMIT_NOFILE, before)
+    assert len(os.listdir(aside)) == most + 2, "with those of the store"
 
 
 # ---- copies before a migration

@@ -18,6 +18,8 @@ from .failures import Stop, reason
 ASIDE = "aside-"
 # A store's own file, and a copy that doesn't have that name yet.
 STORE, FRESH = "store.db", "store.new"
+# What a server opens and locks. There may be any number of others whose names begin like that.
+LOCKED = STORE, f"{STORE}-wal"
 # The names that a store may have. systemctl takes others, such as `*`, for many units.
 NAME = re.compile(r"[A-Za-z0-9_:.\\-]+")
 # The folder in which each store has a folder of its copies, and the bytes that are copied at once.
@@ -83,11 +85,11 @@ def is_folder(name, folder):
 
 @contextlib.contextmanager
 def held(names, folder):
-    """Keeps every process from opening these files in an open folder, as a server does. Raises Stop if one has one of
-    them open: a server that is none of the units', or what reads the store."""
+    """Keeps every process from opening the store among these files in an open folder, as a server does. Raises Stop if
+    one has it open: a server that is none of the units', or what reads the store."""
     with contextlib.ExitStack() as all_open:
         for name in names:
-            if (number := for_locking(name, folder)) is None:
+            if name not in LOCKED or (number := for_locking(name, folder)) is None:
                 continue
             all_open.callback(os.close, number)
             if not store_file.lock(number):
