@@ -88,6 +88,16 @@ def test_said_options(path):
                 assert first in SUBCOMMANDS[tool]
 
 
+@pytest.mark.parametrize("make", [lambda at: None, os.mkfifo, os.mkdir, lambda at: os.symlink(at, at)],
+                         ids=["nothing", "a pipe", "a folder", "a link to itself"])
+def test_said_delay(make, folder):
+    """What waits after a failure ends, whatever a service that was taken over has put in the place of its count."""
+    line, = settings_of(f"{PACKAGED}/nixkeep@.service")["ExecStopPost"]
+    make(f"{folder}/failures")
+    words = shlex.split(line.replace("$$", "$").replace("timeout 90", "timeout 2"))
+    subprocess.run(words, env={**os.environ, "CACHE_DIRECTORY": folder, "SERVICE_RESULT": "signal"}, timeout=60)
+
+
 @pytest.fixture
 def instance(path, folder):
     """The file of a unit of the store red among all of them. (The programs of the units aren't installed here.)"""
