@@ -51,6 +51,14 @@ def test_performance():
     xml.etree.ElementTree.fromstring(text_of("docs/performance.svg"))
 
 
+def test_performance_of_missed_limits():
+    """The page has no more bytes than LIMITS says, whatever limits are missed."""
+    figures = json.loads(text_of(FIGURES))
+    for figure in [figure for of in figures.values() for figure in of["figures"] if figure.get("limit")]:
+        figure["is_met"] = False
+    assert len(bench.pages(figures)[bench.PAGE].encode()) <= LIMITS["docs/PERFORMANCE.md"]
+
+
 @finds_nothing
 def test_promises():
     """The columns `Call` and `Clauses` of PROMISES.md are those of the sources, so each clause that is named exists,

@@ -11,26 +11,23 @@ from nixkeep_dev.bench.figures import shown
 HEADING = "| What | nixkeep | Compared with | Ratio | Limit | Is it met? | Spread |\n|---|---|---|---|---|---|---|"
 INTRODUCTION = """# Performance
 
-`bin/bench --print` writes this page and its picture of the figures in `bench/figures.json`, and `bin/bench --print
-NAME` prints all figures of one benchmark. `bin/bench --table` measures anew, which needs a quiet machine.
+`bin/bench --table` measures on a quiet machine and writes this page, and `bin/bench --print NAME` prints all figures of
+one benchmark.
 
 Each figure is the least of some rounds, since what else the machine does only adds to it; of short commands it is the
-median. Most are compared with a program that does the same work on the same machine in the same run. A limit was set
-before the figure was measured, and a figure that misses it is marked.
+median. What it is compared with did the same work in the same run. A limit was set before the figure was measured.
 """
 GROWTH = """
 ## Growth
 
-The time of an action from the start of a process to its end. A command opens the file and tests all of it first, so it
-takes as long as `list`, whatever it does. A server did that when it started; curl is its client here, or
-`nixkeep-remote`, which the columns call remote.
+Each time is from the start of a process to its end. A command tests all of the file first, so it takes as long as
+`list`. A server did that when it started; its client is curl, or `nixkeep-remote` in the columns called remote.
 
 ![The times of a query and of why over the size of the store](performance.svg)
 """
 BOUND = """
-The time of an action grows by the power in the last column, from 10,000 to 100,000 objects, by a command and by a
-server: 1 is in proportion, 2 is quadratic. No power of any benchmark may be above 1.2, also over references and roots
-(`bin/bench --print growth`).
+The last column has the power by which the time grows with the objects, by a command and by a server: 1 is in
+proportion, 2 is quadratic. None may be above 1.2, also over references and roots (`bin/bench --print growth`).
 """
 DAY = """## A team's day
 
@@ -88,8 +85,12 @@ def lines_of(name: str, measured: dict) -> Iterator[str]:
 
 
 def facts(measured):
-    """What the figures depend on: the newest run, the newest version of each peer, and what other runs measured."""
-    runs = sorted((value["facts"] for value in measured.values()), key=lambda entry: entry["Date"])
+    """What the figures depend on: the newest run, or of those of one date the one with the most benchmarks, the newest
+    version of each peer, and what other runs measured."""
+    of_run = lambda facts: (facts["Date"], facts["Commit"])
+    counted = collections.Counter(of_run(value["facts"]) for value in measured.values())
+    runs = sorted((value["facts"] for value in measured.values()),
+                  key=lambda facts: (facts["Date"], counted[of_run(facts)]))
     now = runs[-1] if runs else {}
     versions = {word: text for run in runs for word, text in run.items() if text != "not installed"}
     peers = [word for word in now if word not in ("Machine", "Date", "Commit")]
@@ -98,10 +99,11 @@ def facts(measured):
     yield f"- Compared with: {versions}"
     earlier = collections.defaultdict(list)
     for name, bench in measured.items():
-        if (run := (bench["facts"]["Date"], bench["facts"]["Commit"])) != (now["Date"], now["Commit"]):
+        if (run := of_run(bench["facts"])) != of_run(now):
             earlier[run].append(name)
-    for (date, commit), names in earlier.items():
-        yield f"- Measured earlier, at commit {commit} on {date}: {', '.join(sorted(names))}"
+    if earlier:
+        runs = (f"{', '.join(sorted(names))} ({commit})" for (_, commit), names in sorted(earlier.items()))
+        yield f"- Measured earlier, at these commits: {'; '.join(runs)}"
 
 
 def version(word, text):

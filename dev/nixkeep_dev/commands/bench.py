@@ -5,11 +5,11 @@
 README.md says what a first run took.
 
 With --quick, each has fewer objects. With --table, the figures are stored in bench/figures.json, with the machine, the
-date, the commit and the versions of the peers, and docs/PERFORMANCE.md is written of the last figures of each. It has
-100,000 objects too, where a benchmark can. With --print, nothing is measured: without a NAME the page and its picture
-are written of the stored figures, and with NAMEs all figures of these are printed, each with its limit and the spread
-over its rounds. In dev/nixkeep_dev/bench, chosen.py says which figures the page has, and remarks.py why limits are
-missed.
+date, the commit and the versions of the peers, and docs/PERFORMANCE.md is written of the last figures of each. A
+benchmark that doesn't end keeps its last figures. It has 100,000 objects too, where a benchmark can. With --print,
+nothing is measured: without a NAME the page and its picture are written of the stored figures, and with NAMEs all
+figures of these are printed, each with its limit and the spread over its rounds. In dev/nixkeep_dev/bench, chosen.py
+says which figures the page has, and remarks.py why limits are missed.
 
 At the end there is a warning for each figure that is more than 20 % worse than the stored one: as a ratio to that of a
 peer, or to the median of all times, so that another machine makes no difference. Figures of fewer objects have none.
@@ -150,11 +150,10 @@ def main() -> int:
             figures = [figures_of(name, more, given, flags, folder) for more in LONG.get(name, [[]])]
             if None in figures:
                 failed.append(name)
-                figures.append([{"section": None, "skipped": "the rest, since the benchmark didn't end"}])
             made[name] = {"facts": facts(), "figures": sum(filter(None, figures), [])}
     is_good = show_end(made, failed, {} if words.quick else measured)
     if words.table:
-        keep({**measured, **{name: result for name, result in made.items() if name in STORED}})
+        keep({**measured, **{name: of for name, of in made.items() if name in STORED and name not in failed}})
     return 0 if is_good else 1
 
 
