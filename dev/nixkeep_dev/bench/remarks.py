@@ -12,8 +12,8 @@ REMARKS = [
            """`sqlite` tests a file when it opens it, and copies each row for that. This and SHA-256, which is scalar
            code in `sha2`, take nearly nine tenths."""),
     Remark(r"stores: `list` on 100 objects .*: memory", "`list` of 100 objects of 1 MiB, its memory",
-           """The opening of `sqlite` alone takes as much: it copies all rows of a table into one list, and keeps all
-           pages of a file of up to 255 MiB."""),
+           """The opening of `sqlite` alone takes as much: it copies all rows of a table into one list, and nixkeep has
+           it keep all pages of a file of up to 255 MiB."""),
     Remark(r"growth: .*: (?!GET|POST).*|nix: the exponent of .* by a command: .*", "growths",
            """The opening of `sqlite` reads pages again in a file of more than 255 MiB, since it has a place for 2,000
            of them alone."""),
@@ -23,12 +23,13 @@ REMARKS = [
     Remark(r"(requests|over_http): .* 16 MiB.* in a file: (time|next to one SHA-256 of it by the same crate)",
            "adds of 16 MiB to a file",
            """In memory they take 1.6 times that SHA-256. Each byte is copied 16 times on its way into the file: 15
-           times by `sqlite`, of which no call takes a value without a copy."""),
+           times by `sqlite`, none of whose calls takes a value without a copy."""),
     Remark(r"over_http: GET .* 16 MiB: next to a file of those bytes", "an archive of 16 MiB, next to nginx",
            """Each byte is copied six times, five of them by `sqlite`. nginx has the kernel send the file, and copies
            nothing. Without nixkeep's own copy it would still be 2.5 times."""),
     Remark(r"requests: 100 archives of 1 MiB .*: time", "archives of 1 MiB that a server sends",
-           """C SQLite only reads the rows. A server that reads them so, and sends them, takes 0.8 of nixkeep's time."""),
+           """C SQLite only reads the rows. A server that reads them so, and sends them, takes 0.8 of nixkeep's
+           time."""),
     Remark(r"counts: memory of .*", "memory for objects with a deriver or an address",
            """Links turned round take 46 bytes for an object, 63 for a list of what refers to it, and 63 for one of
            what it has made. Without them all limits are met."""),
