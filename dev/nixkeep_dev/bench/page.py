@@ -102,8 +102,8 @@ def facts(measured):
         if (run := of_run(bench["facts"])) != of_run(now):
             earlier[run].append(name)
     if earlier:
-        runs = (f"{', '.join(sorted(names))} ({commit})" for (_, commit), names in sorted(earlier.items()))
-        yield f"- Measured earlier, at these commits: {'; '.join(runs)}"
+        runs = (f"{commit}: {', '.join(sorted(names))}" for (_, commit), names in sorted(earlier.items()))
+        yield f"- Measured earlier, at {'; '.join(runs)}"
 
 
 def version(word, text):

@@ -22,8 +22,8 @@ REMARKS = [
            `sqlite` takes 56 and SHA-256 24. A server does this once."""),
     Remark(r"(requests|over_http): .* 16 MiB.* in a file: (time|next to one SHA-256 of it by the same crate)",
            "adds of 16 MiB to a file",
-           """In memory they take 1.6 times that SHA-256. Each byte is copied 16 times on its way into the file: 15
-           times by `sqlite`, none of whose calls takes a value without a copy."""),
+           """In memory they take 1.6 times it. A file has each byte written to its log, read, and written again. Of 16
+           copies of each byte `sqlite` makes 15, and no call of it takes a value without one."""),
     Remark(r"over_http: GET .* 16 MiB: next to a file of those bytes", "an archive of 16 MiB, next to nginx",
            """Each byte is copied six times, five of them by `sqlite`. nginx has the kernel send the file, and copies
            nothing. Without nixkeep's own copy it would still be 2.5 times."""),
