@@ -37,8 +37,7 @@ REMARKS = [
            """More than half of it is the start of python3, and a third the client's modules, without `http.client`,
            `socket`, `ssl` and `re`. To start curl would come in addition."""),
     Remark(r"nix: .* over https: .*", "a query by `nixkeep-remote` over https",
-           """The start of python3 and of the client takes nearly as long as all of curl's query. Of `ssl` only `_ssl`
-           is loaded, in a tenth of the time."""),
+           """Loading `ssl` takes longer than all of curl's query. What `ssl` wraps is private to Python."""),
     Remark(r"readers: .*: .*, all in nginx's cache: requests", "records and archives from nginx's cache",
            """nginx asks its cache as well whether the reader may connect, and reads the head of a reply that it
            keeps."""),

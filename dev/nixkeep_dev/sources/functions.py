@@ -46,7 +46,7 @@ def function_above(file, texts, lines, at):
                 return None
         elif indent and line.startswith("impl"):
             of_its_own = OF_TYPE.match(line)
-            module, owner = owner_of_type(of_its_own, module, texts) if of_its_own else (module, owner_in(line, lines))
+            module, owner = owner_of_type(of_its_own, module, texts) if of_its_own else (module, owner_in(line, texts))
             break
     return name and "::".join(part for part in (module, owner, name) if part)
 
@@ -68,13 +68,13 @@ def owner_of_type(match, module, texts):
     return module_of(declared[0]) if len(declared) == 1 else module, name
 
 
-def owner_in(line, lines):
+def owner_in(line, texts):
     """What a check calls an impl of a trait: its type, with its trait, and with what the trait is of where the type
-    has several of them, or where that has arguments or a parameter of the impl in it."""
+    has several of them in the crate, or where that has arguments or a parameter of the impl in it."""
     of_trait, _, of_type = HEAD.sub("", line).rpartition(" for ")
     trait, _, argument = of_trait.partition("<")
     words, parameters = re.findall(r"\w+", argument), re.findall(r"\w+", HEAD.match(line)[1] or "")
-    others = [other for other in lines
+    others = [other for text in texts.values() for other in text.split("\n")
               if HEAD.sub("", other).startswith(trait + "<") and other.rpartition(" for ")[2] == of_type]
     is_alone = len(others) < 2 and not {*parameters} & {*words} and "<" not in argument
     plain = lambda text: re.match(r"\w*", text.rpartition("::")[2])[0]
