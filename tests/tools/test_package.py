@@ -218,8 +218,10 @@ def test_the_program_runs_with_the_c_library_alone(fresh):
 
 
 def test_the_program_names_no_file_of_the_toolchain(installed):
-    if kit := built.toolchain():
-        assert kit.encode() not in layout.content(f"{installed.root}/usr/bin/nixkeep")
+    kit = built.toolchain()
+    if not kit:
+        pytest.skip("the names of files of the toolchain, which isn't here")
+    assert kit.encode() not in layout.content(f"{installed.root}/usr/bin/nixkeep")
 
 
 def not_compiled(folder):

@@ -66,6 +66,7 @@ def settings_of(path):
 
 
 of_unit = pytest.mark.parametrize("path", UNITS, ids=lambda path: Path(path).name)
+of_service = pytest.mark.parametrize("path", [path for path in UNITS if UNITS[path]], ids=lambda path: Path(path).name)
 
 
 @of_unit
@@ -75,10 +76,12 @@ def test_said_settings(path):
     assert {key: settings_of(path).get(key) for key in wanted} == wanted
 
 
-@of_unit
+@of_service
 def test_said_options(path):
     """The tools that a unit starts have the subcommands and all options that it names."""
-    for line in [value for key, values in settings_of(path).items() if key.startswith("Exec") for value in values]:
+    lines = [value for key, values in settings_of(path).items() if key.startswith("Exec") for value in values]
+    assert [line for line in lines if "/usr/bin/nixkeep-" in line]
+    for line in lines:
         for tool, words in re.findall(r"/usr/bin/(nixkeep-[a-z]+)([^;|]*)", line):
             if (known := options_of(tool)) is None:
                 pytest.skip(f"{tool}: a module of Python that it needs isn't installed")
@@ -114,13 +117,12 @@ def test_said_faults(instance, folder):
     assert [line for line in errors.splitlines() if "nixkeep" in line] == []
 
 
-@of_unit
+@of_service
 @pytest.mark.needs("systemd-analyze")
 def test_said_of_what_it_may_do(path, instance):
-    if UNITS[path]:
-        status, output, errors = ran(["systemd-analyze", "security", "--offline=true", "--no-pager",
-                                      f"--threshold={UNITS[path]}", instance])
-        assert status == 0, f"{output.decode()[-300:]}{errors.decode()}"
+    status, output, errors = ran(["systemd-analyze", "security", "--offline=true", "--no-pager",
+                                  f"--threshold={UNITS[path]}", instance])
+    assert status == 0, f"{output.decode()[-300:]}{errors.decode()}"
 
 
 # ---- a machine
