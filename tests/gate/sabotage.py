@@ -10,9 +10,9 @@ the parts need.
 
 With --today it tries those of a day, by --seed: each fault has one of eight days, so all are tried within eight days.
 The days take about as long as one another, by the processor seconds of parts in tests/sabotage/costs.txt, where one
-that isn't there counts as 20. With
---minutes no further one is planted once these processor minutes are spent: what is left out counts as skipped. Each
-eight days begin with other faults than the eight days before. --jobs says how many are planted at a time.
+that isn't there counts as 20. With --minutes no further one is planted once these processor minutes are spent: what is
+left out counts as skipped. Each eight days begin with other faults than the eight days before. --jobs says how many are
+planted at a time.
 """
 from concurrent.futures import ThreadPoolExecutor
 
