@@ -133,9 +133,10 @@ def test_unknown_records_cause_one_listing():
     assert len(requests) == 7
 
 
-def test_listings_of_all_paths_are_made_one_at_a_time():
-    """Each may have hundreds of MB. So the next one is made once there is room for the last one, and is it alone that
-    waits for its own."""
+@pytest.mark.parametrize("target", ["/paths", "/live", "/dead", "/roots", "/roots-of/x"])
+def test_listings_of_all_paths_are_made_one_at_a_time(target):
+    """Each may have hundreds of MB, since a path may have all the roots. So the next one is made once there is room for
+    the last one, and is it alone that waits for its own."""
     users, sending = [], cache_http.Sending(1_000_000, 60)
 
     class Server:
@@ -144,7 +145,7 @@ def test_listings_of_all_paths_are_made_one_at_a_time():
             return cache_server.Reply(200, "text/plain", bytes(900_000))
 
     class Listed(dict):
-        raw_path, method = "/paths", "GET"
+        raw_path, method = target, "GET"
         transport = types.SimpleNamespace(is_closing=lambda: False, abort=lambda: None)
 
     async def run():
@@ -152,7 +153,7 @@ def test_listings_of_all_paths_are_made_one_at_a_time():
         callers = [cache_server.Caller(user, None) for user in ["ann"] * 5 + ["bob"]]
         requests, counts = [Listed(caller=caller) for caller in callers], []
         replies = [asyncio.ensure_future(
-            passing.replied(request, cache_server.Request(request["caller"], "GET", "/paths"))) for request in requests]
+            passing.replied(request, cache_server.Request(request["caller"], "GET", target))) for request in requests]
         for _ in range(3):
             await asyncio.sleep(0.05)
             counts.append((len(users), sum(reply.done() for reply in replies)))

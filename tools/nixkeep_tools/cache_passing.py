@@ -18,7 +18,7 @@ from .cache_turns import Turns
 TARGET, METHOD, ANY = re.compile(r"/[!-~]*"), re.compile(r"[A-Z]{1,16}"), re.compile(r".*", re.S)
 ADDS = ("/text", "/source", "/import")
 # What is answered with much: archives and their listings, and those of all of the store, which may have hundreds of MB.
-MUCH, ALL = re.compile(r"/(nar|ls)/.*"), re.compile(r"/(paths|live|dead|roots)")
+MUCH, ALL = re.compile(r"/(nar|ls)/.*"), re.compile(r"/(paths|live|dead|roots|roots-of/.*)")
 # The bytes of large bodies that are in memory.
 COMING = 5 * BODY
 # What makes the store larger in another way.
