@@ -19,8 +19,8 @@ import parts
 from nixkeep_dev.testing import nar, stores
 from nixkeep_tools import blob_packing, cache, cache_ending, cache_large, cache_records, cache_shares, cache_sweep, drv
 from nixkeep_tools import cache_changes, cache_http, cache_limit, cache_listings, cache_metrics, cache_names
-from nixkeep_tools import cache_overview, cache_passing, cache_places, cache_room, cache_server, cache_uploads
-from nixkeep_tools import cache_watched, overview_day, overview_source, pointers, store_file
+from nixkeep_tools import cache_overview, cache_passing, cache_places, cache_room, cache_roots, cache_server
+from nixkeep_tools import cache_uploads, cache_watched, overview_day, overview_source, pointers, store_file
 from parts import body
 from tests.tools import large
 from tests.tools.cached import ask, file_name, record
@@ -149,7 +149,7 @@ def test_listings_of_all_paths_are_made_one_at_a_time(target):
         transport = types.SimpleNamespace(is_closing=lambda: False, abort=lambda: None)
 
     async def run():
-        passing = cache_passing.Passing(Server(), None, None, None, None, sending, [], 60)
+        passing = cache_passing.Passing(Server(), None, None, None, None, sending, [], 60, None)
         callers = [cache_server.Caller(user, None) for user in ["ann"] * 5 + ["bob"]]
         requests, counts = [Listed(caller=caller) for caller in callers], []
         replies = [asyncio.ensure_future(
@@ -164,6 +164,61 @@ def test_listings_of_all_paths_are_made_one_at_a_time(target):
 
     assert asyncio.run(run()) == [(2, 1), (3, 2), (4, 3)]
     assert users[:4].count("bob") == 1, "another user is among the first"
+
+
+class Busy(cache_server.Server):
+    """A server that takes a while for each request, and answers that there is nothing."""
+
+    def __init__(self):
+        super().__init__(None, 60)
+        self.users = []
+
+    async def connect(self, came):
+        self.connections = 1
+
+    async def sent(self, messages):
+        await asyncio.sleep(0.001)
+        self.users += [head.partition(b"store-user: ")[2].partition(b"\r\n")[0] for head, _ in messages]
+        return [cache_server.Reply(200, "text/plain", b"") for _ in messages]
+
+
+def unknown_record(server):
+    names = cache_names.Names(server, 0)
+    return lambda caller: names.base(caller, "1" * 32)
+
+
+def all_paths(server):
+    passing = cache_passing.Passing(server, None, None, None, None, cache_http.Sending(100, 60), [], 60, None)
+    request = type("Request", (dict,), {"raw_path": "/paths", "transport": types.SimpleNamespace(
+        is_closing=lambda: False)})
+    return lambda caller: passing.replied(request(caller=caller), cache_server.Request(caller, "GET", "/paths"))
+
+
+def overview(server):
+    return cache_overview.Overviews(server, "/nix/store", (True, True), None, None).figures
+
+
+def first_root(server):
+    return cache_roots.Roots(server, "/nix/store").known
+
+
+@pytest.mark.parametrize("what", [unknown_record, all_paths, overview, first_root])
+def test_nobody_waits_for_the_other_requests_of_a_user(what):
+    """What is done once for many, or by one at a time, doesn't wait behind the other requests of the user who began."""
+    server, (ann, bob) = Busy(), [cache_server.Caller(user, None) for user in ("ann", "bob")]
+
+    async def run():
+        done = what(server)
+        many = [asyncio.ensure_future(server.ask(ann, "GET", "/report")) for _ in range(100)]
+        await asyncio.sleep(0)
+        first = asyncio.ensure_future(done(ann))
+        await asyncio.sleep(0)
+        await done(bob)
+        count = sum(task.done() for task in many)
+        await asyncio.gather(first, *many)
+        return count
+
+    assert asyncio.run(run()) < 20
 
 
 LONG = b"%s /nix/store/0-x\n" % (b"x" * 4500)
@@ -484,7 +539,7 @@ def test_bodies_that_wait_have_room():
         await asyncio.sleep(60)
 
     async def run():
-        uploads, passing = cache_uploads.Uploads(*[None] * 10), cache_passing.Passing(*[None] * 8)
+        uploads, passing = cache_uploads.Uploads(*[None] * 10), cache_passing.Passing(*[None] * 9)
         uploads.records, passing.coming = cache_room.Room(20 * 3 * 40_000), cache_room.Room(20 * 40_000)
         uploads.idle = passing.idle = 60
         uploads.recorded, look = waits, lambda caller, _: waits({"caller": caller})

@@ -1,5 +1,6 @@
 """Tests of the memory that nixkeep-cache and its server take at the worst: the largest store that takes adds, and
 all that requests may have at once with it."""
+import asyncio
 import contextlib
 import os
 import re
@@ -10,7 +11,7 @@ import pytest
 
 from nixkeep_dev.build.program import HERE
 from nixkeep_tools import cache_blobs, cache_fair, cache_http, cache_limit, cache_names, cache_overview, cache_passing
-from nixkeep_tools import blob_packing, cache_uploads, nar, store_size
+from nixkeep_tools import blob_packing, cache_roots, cache_server, cache_uploads, nar, store_size
 from parts import TOOLS
 
 pytestmark = pytest.mark.needs("python3-aiohttp", "python3-zstandard")
@@ -168,6 +169,52 @@ def test_listings_count():
         names.added(b"".join(lines[:50]))
         names.deleted(b"".join(lines[10:30]) + b"freed 20 paths 20 bytes\n")
         assert names.size == len(b"".join(lines)) * 8 // 10
+
+
+class Rooted:
+    """A server with roots, each of which has a line as in a listing."""
+
+    def __init__(self, lines):
+        self.lines, self.listings, self.connections = lines, 0, 1
+
+    async def ask(self, caller, method, target, body=b""):
+        if target == "/roots":
+            self.listings += 1
+            return cache_server.Reply(200, "text/plain", b"".join(self.lines))
+        _, kind, user, name = target.split("/")[1:]
+        assert kind == "user"
+        self.lines.append(b"gcroots/per-user/%s/%s /nix/store/%s\n" % (user.encode(), name.encode(), body[6:-2]))
+        return cache_server.Reply(200, "text/plain", b"done\n")
+
+
+def test_roots_count(monkeypatch):
+    """A listing of all roots, for which any user may ask, counts as well, however short names are: those that are there
+    when a server starts, and those that are set. So do no more of them count than there are."""
+    monkeypatch.setattr(cache_roots, "AGAIN", 1000)
+    ann, server = cache_server.Caller("ann", None), Rooted([b"gcroots/%d /nix/store/x\n" % at for at in range(100)])
+    roots = cache_roots.Roots(server, "/nix/store")
+    limit = cache_limit.Limit(None, None, lambda: 1, lambda: cache_limit.LISTINGS * roots.size)
+    limit.memory = 6 * 30_000 / cache_limit.TOGETHER
+    passing = cache_passing.Passing(server, None, None, limit, None, None, [], 60, roots)
+
+    def put(name, base):
+        target = f"/root/user/ann/{name}"
+        return passing.answered(cache_server.Request(ann, "POST", target, b"path: %s\n\n" % base))
+
+    async def run():
+        await put("first", b"x")
+        assert server.listings == 1 and roots.size >= len(b"".join(server.lines))
+        for at in range(500):
+            await put(f"{at:02}", b"0" * (at % 40))
+            assert roots.size >= len(b"".join(server.lines))
+
+    with pytest.raises(cache_limit.Full):
+        asyncio.run(run())
+    assert 20_000 < len(b"".join(server.lines)) < 30_000 and server.listings < 20
+    del server.lines[1:]
+    server.connections = 2
+    asyncio.run(put("another", b"x"))
+    assert roots.size < 2000
 
 
 def test_figures_take_what_is_left(monkeypatch):

@@ -31,6 +31,7 @@ from .cache_passing import Passing
 from .cache_pointers import Pointers
 from .cache_records import Bad
 from .cache_room import Left
+from .cache_roots import Roots
 from .cache_server import Caller, Port, Server, Unreachable
 from .cache_sessions import Sessions
 from .cache_shares import Shares
@@ -143,7 +144,8 @@ def parts_of(said, server, waiting, settings, signing, ends):
     for name in filter(stored.base, [*waiting.files]):
         waiting.use(name)
     sending, sessions = Sending(ROOM, said.idle), Sessions(server, f"{waiting.folder}/sessions", said.session_seconds)
-    own = lambda: store_size.resident() + cache_limit.LISTINGS * names.size
+    roots = Roots(server, store)
+    own = lambda: store_size.resident() + cache_limit.LISTINGS * (names.size + roots.size)
     limit = cache_limit.Limit(said.db, said.most_bytes, server.place.memory, own, lambda: server.place.opened)
     overviews = Overviews(server, store, keeps, sending, overview_source.name_of(said.config, said.db), left=limit.left)
     watched = Watched(said, server, waiting, limit, store)
@@ -151,7 +153,7 @@ def parts_of(said, server, waiting, settings, signing, ends):
     of_large = large_of(said, server, waiting.folder, sending, shares, store, ends)
     large = of_large[0] if of_large else None
     uploads = Uploads(server, names, stored, waiting, sessions, signing, limit, shares, store, said.idle, large)
-    passing = Passing(server, names, sessions, limit, shares, sending, followers, said.idle)
+    passing = Passing(server, names, sessions, limit, shares, sending, followers, said.idle, roots)
     if large:
         large.uploads, large.passing = uploads, passing
         watched.watch_blobs(large.blobs, of_large[1])

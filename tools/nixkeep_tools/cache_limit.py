@@ -14,7 +14,7 @@ ROOTS = 0.05
 # and SINCE times the memory that the running server has for it: that of small rows is more while they are read.
 STARTS, SINCE = 0.8, 2
 # The part of the memory that the server may have together with this process, which has the names of all objects,
-# records and figures, and with what listings of all objects take.
+# records and figures, and with what listings of all objects and of all roots take.
 #
 # The rest is for what requests have in memory, and has to be more than the sum of these, which is of the unit's limit
 # (packaging/nixkeep@.service), and which tests/tools/test_cache_memory.py makes again:
@@ -32,8 +32,8 @@ STARTS, SINCE = 0.8, 2
 TOGETHER = 0.7
 # The copies of one archive that a server has for a request: as it came, as it is in the database, and as a reply.
 SERVER = 4
-# How many times a listing of all objects may be in memory, of both processes: as the server makes it, as it comes, and
-# as those have it who asked for one: for names, for a client, for pointers and for the overview.
+# How many times a listing of all objects or roots may be in memory, of both processes: as the server makes it, as it
+# comes, and as those have it who asked for one: for names, for a client, for pointers and for the overview.
 LISTINGS = 6
 # The seconds between two looks at the file, and between two warnings.
 LOOK, WARN = 1, 3600

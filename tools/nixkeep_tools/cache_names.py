@@ -4,6 +4,7 @@ import time
 from collections.abc import Callable, Iterable, Iterator
 
 from .cache_server import Caller, Reply, Server, bases_in
+from .cache_turns import awaited
 
 # The bytes of a line of a listing besides a base name, where the store's directory is that of Nix.
 LINE = len("/nix/store/\n")
@@ -41,7 +42,8 @@ class Names:
 
     async def list(self, caller: Caller) -> Reply | None:
         """Lists the paths. Returns the reply of a server that doesn't, or None."""
-        reply = await self.server.ask(caller, "GET", "/paths")
+        with awaited():
+            reply = await self.server.ask(caller, "GET", "/paths")
         if reply.status != 200:
             return reply
         self.bases.clear()

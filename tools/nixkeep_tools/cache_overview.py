@@ -38,7 +38,7 @@ class Overviews:
         self.store, self.keeps, self.sending, self.name, self.longest = store, keeps, sending, name, longest
         self.left = left
         self.records = overview_source.Records(server, keeps[0], self.most, self.apart)
-        self.turn, self.made = asyncio.Lock(), {}
+        self.turns, self.made = Turns(), {}
         # (threads of its own, since archives need the others; and one page at a time, for which users take turns)
         self.threads, self.pages = ThreadPoolExecutor(THREADS, "overview"), Turns()
 
@@ -84,7 +84,7 @@ class Overviews:
                 self.made[caller] = made, asyncio.get_running_loop().time() + FRESH
 
     async def make(self, caller: Caller) -> overview.Overview:
-        async with self.turn:
+        async with self.turns.turn(caller.user):
             try:
                 store, live = await self.records.store(caller)
             except overview_source.TooMany as many:

@@ -10,6 +10,7 @@ from .cache_limit import Limit
 from .cache_listings import Listings
 from .cache_names import Names
 from .cache_room import Room, demand_client
+from .cache_roots import Roots
 from .cache_server import DELETES, Caller, Reply, Request, Server
 from .cache_sessions import Sessions, target as session_of
 from .cache_shares import Shares
@@ -31,9 +32,9 @@ class Passing:
     """`followers` are called with the text of each deletion that passes."""
 
     def __init__(self, server: Server, names: Names, sessions: Sessions, limit: Limit, shares: Shares, sending: Sending,
-                 followers: list[Callable[[bytes], object]], idle: float):
+                 followers: list[Callable[[bytes], object]], idle: float, roots: Roots):
         self.server, self.names, self.sessions, self.sending = server, names, sessions, sending
-        self.limit, self.shares = limit, shares
+        self.limit, self.shares, self.roots = limit, shares, roots
         self.followers, self.idle, self.coming, self.listings = followers, idle, Room(COMING), Listings(server)
         self.turns = Turns()
 
@@ -83,15 +84,25 @@ class Passing:
             self.sessions.forget(request.caller)
         if request.method != "POST":
             return await self.server.ask(*request)
-        if request.target in ADDS or GROWS.fullmatch(request.target):
-            self.limit.check(len(request.body), request.target in ADDS)
         if request.target in ADDS:
+            self.limit.check(len(request.body))
             return await self.added(request)
+        if GROWS.fullmatch(request.target):
+            return await self.rooted(request)
         is_deletion = request.target in DELETES
         answer = await (self.sessions.before(request) if is_deletion else self.server.ask(*request))
         if answer.status == 200 and is_deletion:
             for follow in self.followers:
                 follow(answer.text)
+        return answer
+
+    async def rooted(self, request: Request) -> Reply:
+        """The reply to a request that sets roots."""
+        await self.roots.known(request.caller)
+        self.limit.check(len(request.body), False)
+        answer = await self.server.ask(*request)
+        if answer.status == 200:
+            self.roots.added(request)
         return answer
 
     async def added(self, request: Request) -> Reply:

@@ -13,7 +13,7 @@ import re
 from collections.abc import AsyncIterator, Callable, Iterable, Iterator
 from typing import TYPE_CHECKING
 
-from .cache_turns import Turns
+from .cache_turns import IS_AWAITED, Turns
 
 if TYPE_CHECKING:
     from .cache_child import Child
@@ -155,7 +155,7 @@ class Server:
     async def exchange(self, requests, first):
         came = asyncio.get_running_loop().time()
         tries = 2 if all(REPEATED.fullmatch(f"{request.method} {request.target}") for request in requests) else 1
-        async with self.turns.turn(requests[0].caller.user):
+        async with self.turns.turn((requests[0].caller.user, IS_AWAITED.get())):
             while True:
                 await self.connect(came)
                 messages = [message(request) for request in (*first(), *requests)]

@@ -2,7 +2,22 @@
 import asyncio
 import collections
 import contextlib
-from collections.abc import AsyncIterator
+import contextvars
+from collections.abc import AsyncIterator, Hashable, Iterator
+
+# Whether others wait for what is being done.
+IS_AWAITED = contextvars.ContextVar("is_awaited", default=False)
+
+
+@contextlib.contextmanager
+def awaited() -> Iterator[None]:
+    """While something is done for which others wait: it doesn't wait at the server behind the other requests of its
+    user, who may have hundreds."""
+    token = IS_AWAITED.set(True)
+    try:
+        yield
+    finally:
+        IS_AWAITED.reset(token)
 
 
 class Turns:
@@ -17,14 +32,15 @@ class Turns:
         return sum(not waiter.done() for waiters in self.groups.values() for waiter in waiters)
 
     @contextlib.asynccontextmanager
-    async def turn(self, key: str) -> AsyncIterator[None]:
+    async def turn(self, key: Hashable) -> AsyncIterator[None]:
         await self.take(key)
         try:
-            yield
+            with awaited():
+                yield
         finally:
             self.end()
 
-    async def take(self, key: str | None) -> None:
+    async def take(self, key: Hashable) -> None:
         if not self.is_taken:
             self.is_taken = True
             return
