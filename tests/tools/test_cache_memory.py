@@ -177,19 +177,28 @@ class Rooted:
     def __init__(self, lines):
         self.lines, self.listings, self.connections = lines, 0, 1
 
+    def size(self):
+        return sum(map(len, self.lines))
+
     async def ask(self, caller, method, target, body=b""):
         if target == "/roots":
             self.listings += 1
             return cache_server.Reply(200, "text/plain", b"".join(self.lines))
-        _, kind, user, name = target.split("/")[1:]
-        assert kind == "user"
-        self.lines.append(b"gcroots/per-user/%s/%s /nix/store/%s\n" % (user.encode(), name.encode(), body[6:-2]))
+        if method == "DELETE" and target == "/temp/ann/1":
+            count = len(self.lines)
+            self.lines.clear()
+            return cache_server.Reply(200, "text/plain", b"temporary roots %d\n" % count)
+        user, name = (word.encode() for word in target.split("/")[3:])
+        if method == "DELETE":
+            self.lines.pop()
+        else:
+            self.lines.append(b"gcroots/per-user/%s/%s /nix/store/%s\n" % (user, name, body[6:-2]))
         return cache_server.Reply(200, "text/plain", b"done\n")
 
 
 def test_roots_count(monkeypatch):
     """A listing of all roots, for which any user may ask, counts as well, however short names are: those that are there
-    when a server starts, and those that are set. So do no more of them count than there are."""
+    when a server starts, and those that are set. Those that are dropped don't count for long."""
     monkeypatch.setattr(cache_roots, "AGAIN", 1000)
     ann, server = cache_server.Caller("ann", None), Rooted([b"gcroots/%d /nix/store/x\n" % at for at in range(100)])
     roots = cache_roots.Roots(server, "/nix/store")
@@ -197,24 +206,35 @@ def test_roots_count(monkeypatch):
     limit.memory = 6 * 30_000 / cache_limit.TOGETHER
     passing = cache_passing.Passing(server, None, None, limit, None, None, [], 60, roots)
 
+    def ask(method, target, text=b""):
+        return passing.answered(cache_server.Request(ann, method, target, text))
+
     def put(name, base):
-        target = f"/root/user/ann/{name}"
-        return passing.answered(cache_server.Request(ann, "POST", target, b"path: %s\n\n" % base))
+        return ask("POST", f"/root/user/ann/{name}", b"path: %s\n\n" % base)
+
+    async def drop():
+        for at in range(300):
+            await ask("DELETE", f"/root/user/ann/{at}")
+        assert roots.size < 2 * server.size()
+        for _ in range(2):
+            await ask("DELETE", "/temp/ann/1")
+        assert roots.size == 0
 
     async def run():
         await put("first", b"x")
-        assert server.listings == 1 and roots.size >= len(b"".join(server.lines))
+        assert server.listings == 1 and roots.size >= server.size()
         for at in range(500):
             await put(f"{at:02}", b"0" * (at % 40))
-            assert roots.size >= len(b"".join(server.lines))
+            assert roots.size >= server.size()
 
     with pytest.raises(cache_limit.Full):
         asyncio.run(run())
-    assert 20_000 < len(b"".join(server.lines)) < 30_000 and server.listings < 20
-    del server.lines[1:]
+    assert 20_000 < server.size() < 30_000 and server.listings < 20
+    asyncio.run(drop())
+    server.lines += [b"gcroots/%d /nix/store/x\n" % at for at in range(2000)]
     server.connections = 2
-    asyncio.run(put("another", b"x"))
-    assert roots.size < 2000
+    with pytest.raises(cache_limit.Full):
+        asyncio.run(put("another", b"x"))
 
 
 def test_figures_take_what_is_left(monkeypatch):

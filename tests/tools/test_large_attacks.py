@@ -21,7 +21,8 @@ pytest.importorskip("aiohttp", reason="needs python3-aiohttp (Debian: python3-ai
 import parts
 from nixkeep_dev.build.program import HERE
 from nixkeep_dev.testing import nar, stores
-from nixkeep_tools import cache_blobs, cache_http, cache_overview, cache_records, cache_shares, cache_waiting
+from nixkeep_tools import cache_blobs, cache_http, cache_overview, cache_records, cache_server, cache_shares
+from nixkeep_tools import cache_waiting
 from parts import body, some_path
 from tests.tools import cached, large, servers
 from tests.tools.large import archive_of, is_sound, send_half
@@ -360,8 +361,8 @@ def test_many_roots():
     overviews = cache_overview.Overviews(None, "/nix/store", (False, True), None, None)
     counts = {"ann": (20_000, 10_000), "bob": (20_000, 10_000), "carl": (100_000, 10_738)}
 
-    async def store(user):
-        objects, roots = counts[user]
+    async def store(caller):
+        objects, roots = counts[caller.user]
         return types.SimpleNamespace(objects=range(objects), roots=range(roots)), set()
 
     async def made(*_):
@@ -372,7 +373,8 @@ def test_many_roots():
         replies = []
         for user in counts:
             try:
-                replies.append((await overviews.figures(user), [*overviews.made]))
+                figures = await overviews.figures(cache_server.Caller(user, None))
+                replies.append((figures, [caller.user for caller in overviews.made]))
             except cache_http.Answered as answered:
                 replies.append((answered.reply.status, answered.reply.text))
         return replies

@@ -22,8 +22,8 @@ ADDS = ("/text", "/source", "/import")
 MUCH, ALL = re.compile(r"/(nar|ls)/.*"), re.compile(r"/(paths|live|dead|roots|roots-of/.*)")
 # The bytes of large bodies that are in memory.
 COMING = 5 * BODY
-# What makes the store larger in another way.
-GROWS = re.compile(r"/(root|profile|temp)/.*|/runtime")
+# What sets or drops roots.
+ROOTS = re.compile(r"/(root|profile|generation|temp)/.*|/runtime")
 # What may answer a request by its caller and its body; None leaves it to the store.
 Look = Callable[[Caller, bytes], Awaitable[web.Response | None]]
 
@@ -82,13 +82,13 @@ class Passing:
     async def answered(self, request: Request) -> Reply:
         if request.method == "DELETE" and request.target == session_of(request.caller.user):
             self.sessions.forget(request.caller)
+        if request.method in ("POST", "DELETE") and ROOTS.fullmatch(request.target):
+            return await self.rooted(request)
         if request.method != "POST":
             return await self.server.ask(*request)
         if request.target in ADDS:
             self.limit.check(len(request.body))
             return await self.added(request)
-        if GROWS.fullmatch(request.target):
-            return await self.rooted(request)
         is_deletion = request.target in DELETES
         answer = await (self.sessions.before(request) if is_deletion else self.server.ask(*request))
         if answer.status == 200 and is_deletion:
@@ -97,12 +97,13 @@ class Passing:
         return answer
 
     async def rooted(self, request: Request) -> Reply:
-        """The reply to a request that sets roots."""
+        """The reply to a request that sets or drops roots."""
         await self.roots.known(request.caller)
-        self.limit.check(len(request.body), False)
+        if request.method == "POST":
+            self.limit.check(len(request.body), False)
         answer = await self.server.ask(*request)
         if answer.status == 200:
-            self.roots.added(request)
+            self.roots.changed(request, answer.text)
         return answer
 
     async def added(self, request: Request) -> Reply:

@@ -1,10 +1,10 @@
 """How long a listing of all roots is. Any user may ask for one, and may set a million roots in a small store. So what a
 listing takes counts with what lasts."""
-from .cache_server import Caller, Reply, Request, Server
+from .cache_server import Caller, Request, Server
 from .cache_turns import Turns
 
-# The bytes of a root's line besides the store's directory and what the request says that sets it. And those by which a
-# listing becomes longer, besides a part of it, before it is made again: many requests set a root that is there.
+# The bytes of a root's line besides the store's directory and what the request says that sets it. And those that are
+# set or dropped, besides a part of all, before a listing is made again: many requests set a root that is there.
 LINE, AGAIN, PART = 48, 8 << 20, 0.25
 
 
@@ -12,21 +12,29 @@ class Roots:
     """`size` is the length of the last listing, and of what was set since."""
 
     def __init__(self, server: Server, store: str):
-        self.server, self.line, self.size, self.last, self.connection = server, len(store) + LINE, 0, 0, None
-        self.turns = Turns()
+        self.server, self.line, self.size, self.turns = server, len(store) + LINE, 0, Turns()
+        # Beyond how many bytes of change a listing is made again, and how many there are.
+        self.most, self.since, self.connection = 0, 0, None
 
     async def known(self, caller: Caller) -> None:
         """Asks for a listing, where it isn't known how long one is."""
         async with self.turns.turn(caller.user):
-            if self.connection != self.server.connections or self.size > (1 + PART) * self.last + AGAIN:
-                self.listed(await self.server.ask(caller, "GET", "/roots"))
+            if self.connection == self.server.connections and self.since <= self.most:
+                return
+            reply = await self.server.ask(caller, "GET", "/roots")
+            if reply.status == 200:
+                self.size, self.since, self.connection = len(reply.text), 0, self.server.connections
+                self.most = PART * self.size + AGAIN
 
-    def listed(self, reply: Reply) -> None:
-        """Follows a listing of all roots."""
-        if reply.status == 200:
-            self.size = self.last = len(reply.text)
-            self.connection = self.server.connections
-
-    def added(self, request: Request) -> None:
-        """Follows a request that has set roots."""
-        self.size += len(request.target) + len(request.body) + request.body.count(b"\n") * self.line
+    def changed(self, request: Request, text: bytes) -> None:
+        """Follows a request that has set or dropped roots, and the text of its reply."""
+        # (the end of a session says how many it has dropped; else there is a line for each, and an empty one)
+        is_end = text.startswith(b"temporary roots ")
+        count = int(text.split()[-1]) if is_end else max(1, request.body.count(b"\n") - 1)
+        size = len(request.target) + len(request.body) + count * self.line
+        self.since += size
+        if request.method == "POST":
+            self.size += size
+        if request.target == "/runtime":
+            # (it drops all that it doesn't name)
+            self.connection = None
