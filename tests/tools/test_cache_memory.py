@@ -213,12 +213,15 @@ def test_roots_count(monkeypatch):
         return ask("POST", f"/root/user/ann/{name}", b"path: %s\n\n" % base)
 
     async def drop():
+        before = roots.size
         for at in range(300):
             await ask("DELETE", f"/root/user/ann/{at}")
-        assert roots.size < 2 * server.size()
-        for _ in range(2):
+        assert server.size() <= roots.size < before / 1.5
+        del server.lines[100:]
+        before = roots.size
+        for at in range(2):
             await ask("DELETE", "/temp/ann/1")
-        assert roots.size == 0
+        assert roots.size == before - 100 * cache_roots.LEAST and not server.lines
 
     async def run():
         await put("first", b"x")

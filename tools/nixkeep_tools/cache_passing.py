@@ -98,8 +98,8 @@ class Passing:
 
     async def rooted(self, request: Request) -> Reply:
         """The reply to a request that sets or drops roots."""
-        await self.roots.known(request.caller)
         if request.method == "POST":
+            await self.roots.known(request.caller)
             self.limit.check(len(request.body), False)
         answer = await self.server.ask(*request)
         if answer.status == 200:

@@ -3,9 +3,10 @@ listing takes counts with what lasts."""
 from .cache_server import Caller, Request, Server
 from .cache_turns import Turns
 
-# The bytes of a root's line besides the store's directory and what the request says that sets it. And those that are
-# set or dropped, besides a part of all, before a listing is made again: many requests set a root that is there.
-LINE, AGAIN, PART = 48, 8 << 20, 0.25
+# The bytes of a root's line besides the store's directory and what the request says that sets it, and the least that a
+# line has besides what the request says that drops it. And those that are set or dropped, besides a part of all, before
+# a listing is made again: many requests set a root that is there.
+LINE, LEAST, AGAIN, PART = 48, 24, 8 << 20, 0.25
 
 
 class Roots:
@@ -28,13 +29,16 @@ class Roots:
 
     def changed(self, request: Request, text: bytes) -> None:
         """Follows a request that has set or dropped roots, and the text of its reply."""
-        # (the end of a session says how many it has dropped; else there is a line for each, and an empty one)
-        is_end = text.startswith(b"temporary roots ")
-        count = int(text.split()[-1]) if is_end else max(1, request.body.count(b"\n") - 1)
-        size = len(request.target) + len(request.body) + count * self.line
-        self.since += size
         if request.method == "POST":
+            # (there is a line for each, and an empty one)
+            size = len(request.target) + len(request.body) + max(1, request.body.count(b"\n") - 1) * self.line
             self.size += size
+        else:
+            # (the end of a session says how many it has dropped)
+            is_end = text.startswith(b"temporary roots ")
+            size = int(text.split()[-1]) * LEAST if is_end else len(request.target) + LEAST
+            self.size = max(0, self.size - size)
+        self.since += size
         if request.target == "/runtime":
             # (it drops all that it doesn't name)
             self.connection = None
