@@ -136,7 +136,7 @@ def test_unknown_records_cause_one_listing():
 @pytest.mark.parametrize("target", ["/paths", "/live", "/dead", "/roots", "/roots-of/x"])
 def test_listings_of_all_paths_are_made_one_at_a_time(target):
     """Each may have hundreds of MB, since a path may have all the roots. So the next one is made once there is room for
-    the last one, and is it alone that waits for its own."""
+    it, and none is in memory that waits."""
     users, sending = [], cache_http.Sending(1_000_000, 60)
 
     class Server:
@@ -162,8 +162,39 @@ def test_listings_of_all_paths_are_made_one_at_a_time(target):
             reply.cancel()
         return counts
 
-    assert asyncio.run(run()) == [(2, 1), (3, 2), (4, 3)]
+    assert asyncio.run(run()) == [(1, 1), (2, 2), (3, 3)]
     assert users[:4].count("bob") == 1, "another user is among the first"
+
+
+def test_slow_readers_of_listings_hold_up_no_other_user():
+    """A user who reads long listings slowly waits for room without the turn of others."""
+    sending = cache_http.Sending(1_000_000, 60)
+
+    class Server:
+        async def ask(self, caller, *_):
+            return cache_server.Reply(200, "text/plain", bytes(900_000 if caller.user == "ann" else 10))
+
+    class Listed(dict):
+        transport, method = types.SimpleNamespace(is_closing=lambda: False, abort=lambda: None), "GET"
+
+    async def run():
+        passing = cache_passing.Passing(Server(), None, None, None, None, sending, [], 60, None)
+
+        def asked(user, target):
+            request = Listed(caller=cache_server.Caller(user, None))
+            request.raw_path = target
+            return asyncio.ensure_future(
+                passing.replied(request, cache_server.Request(request["caller"], "GET", target)))
+
+        slow = [asked("ann", "/roots") for _ in range(5)]
+        await asyncio.sleep(0.05)
+        async with asyncio.timeout(5):
+            assert (await asked("bob", "/paths")).status == 200
+        assert sum(task.done() for task in slow) == 1
+        for task in slow:
+            task.cancel()
+
+    asyncio.run(run())
 
 
 class Busy(cache_server.Server):

@@ -139,6 +139,15 @@ class Sending(Room):
         async with self.taken(request, UNKNOWN if is_much else 0, True) as request["room"]:
             yield
 
+    async def reserve(self, request: web.Request, size: int) -> None:
+        """Waits for room of so many bytes, in the place of what a request has."""
+        if held := request.get("room"):
+            self.give(held)
+        request["room"] = None
+        if size > LARGE:
+            request["room"] = held = await self.take(request, size)
+            held.is_safe = True
+
     async def room(self, request: web.Request, answer: web.Response) -> None:
         """Waits until there is room for a reply, and takes it, for the `send` that follows."""
         size, held = len(answer.body) if len(answer.body) > LARGE else 0, request.get("room")

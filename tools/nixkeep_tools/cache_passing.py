@@ -36,7 +36,8 @@ class Passing:
         self.server, self.names, self.sessions, self.sending = server, names, sessions, sending
         self.limit, self.shares, self.roots = limit, shares, roots
         self.followers, self.idle, self.coming, self.listings = followers, idle, Room(COMING), Listings(server)
-        self.turns = Turns()
+        # The bytes of the last listings of all of the store, or more where parts of these are longer.
+        self.turns, self.lengths = Turns(), {}
 
     def routes(self) -> list[Route]:
         return [Route(None, ANY, self.request)]
@@ -65,14 +66,30 @@ class Passing:
                 return await self.sending.send(request, answer)
 
     async def replied(self, request: web.Request, made: Request) -> web.Response:
-        """The reply of the server, once there is room for it. Listings of all of the store are made one at a time, and
-        each has its room before the next one is made. Users take turns."""
+        """The reply of the server, once there is room for it. Listings of all of the store are made one at a time. Each
+        has its room before, so that nobody waits for the slow readers of another user. Users take turns."""
         await self.listings.demand(request)
-        if not ALL.fullmatch(made.target):
+        if not (match := ALL.fullmatch(made.target)):
             return await self.roomy(request, made)
-        async with self.turns.turn(made.caller.user):
-            demand_client(request)
-            return await self.roomy(request, made)
+        kind = "roots" if match[1].startswith("roots") else "paths"
+        try:
+            while True:
+                await self.sending.reserve(request, size := self.lengths.get(kind, 0))
+                async with self.turns.turn(made.caller.user):
+                    demand_client(request)
+                    # (else another one was longer, meanwhile)
+                    if self.lengths.get(kind, 0) <= size:
+                        return await self.listed(request, made, kind)
+        except BaseException:
+            await self.sending.reserve(request, 0)
+            raise
+
+    async def listed(self, request, made, kind):
+        answer = await self.roomy(request, made)
+        if answer.status == 200:
+            least = 0 if made.target == f"/{kind}" else self.lengths.get(kind, 0)
+            self.lengths[kind] = max(least, len(answer.body))
+        return answer
 
     async def roomy(self, request, made):
         answer = passed(await self.answered(made))

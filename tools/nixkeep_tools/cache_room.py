@@ -133,6 +133,9 @@ class Room:
             if self.bytes and self.bytes + first.size > self.most:
                 return
             self.leave(first)
+            # (of users who have equally much, those who have got nothing for longest are first)
+            if first.user in self.waiting:
+                self.waiting[first.user] = self.waiting.pop(first.user)
             self.held.append(first)
             self.bytes += first.size
             used[first.user] += first.size
