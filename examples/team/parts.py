@@ -37,8 +37,6 @@ PACKAGES = {"nginx": "nginx-light", "nix": "nix-bin", "nix-store": "nix-bin", "h
             "ab": "apache2-utils", "dot": "graphviz", "nft": "nftables", "fail2ban-server": "fail2ban",
             "fail2ban-regex": "fail2ban"}
 counts = {"passed": 0, "failed": 0, "skipped": 0}
-# A script that is ended ends its parts, too.
-signal.signal(signal.SIGTERM, lambda *_: sys.exit(1))
 
 
 def check(what: str, is_so: Any, seen: str = "") -> Any:
@@ -67,6 +65,8 @@ def script(doc: str, what: str, run: Callable[[argparse.Namespace], object], *ne
     more(parser)
     words = parser.parse_args()
     words.program = str(Path(words.program).absolute())
+    # (a script that is ended ends its parts, too)
+    signal.signal(signal.SIGTERM, lambda *_: sys.exit(1))
     if subprocess.run([words.program, "--help"], stdout=subprocess.DEVNULL).returncode:
         sys.exit(f"{words.program} can't be run")
     with tempfile.TemporaryDirectory() as words.folder:
