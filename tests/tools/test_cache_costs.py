@@ -180,16 +180,16 @@ def test_slow_readers_of_listings_hold_up_no_other_user():
     async def run():
         passing = cache_passing.Passing(Server(), None, None, None, None, sending, [], 60, None)
 
-        def asked(user, target):
+        def get(user, target):
             request = Listed(caller=cache_server.Caller(user, None))
             request.raw_path = target
             return asyncio.ensure_future(
                 passing.replied(request, cache_server.Request(request["caller"], "GET", target)))
 
-        slow = [asked("ann", "/roots") for _ in range(5)]
+        slow = [get("ann", "/roots") for _ in range(5)]
         await asyncio.sleep(0.05)
         async with asyncio.timeout(5):
-            assert (await asked("bob", "/paths")).status == 200
+            assert (await get("bob", "/paths")).status == 200
         assert sum(task.done() for task in slow) == 1
         for task in slow:
             task.cancel()
@@ -235,7 +235,7 @@ def first_root(server):
 
 @pytest.mark.parametrize("what", [unknown_record, all_paths, overview, first_root])
 def test_nobody_waits_for_the_other_requests_of_a_user(what):
-    """What is done once for many, or by one at a time, doesn't wait behind the other requests of the user who began."""
+    """What is done once for many, or by one at a time, doesn't wait for the other requests of the user who began."""
     server, (ann, bob) = Busy(), [cache_server.Caller(user, None) for user in ("ann", "bob")]
 
     async def run():

@@ -84,7 +84,7 @@ class Passing:
             await self.sending.reserve(request, 0)
             raise
 
-    async def listed(self, request, made, kind):
+    async def listed(self, request: web.Request, made: Request, kind: str) -> web.Response:
         answer = await self.roomy(request, made)
         if answer.status == 200:
             least = 0 if made.target == f"/{kind}" else self.lengths.get(kind, 0)

@@ -11,7 +11,7 @@ IS_AWAITED = contextvars.ContextVar("is_awaited", default=False)
 
 @contextlib.contextmanager
 def awaited() -> Iterator[None]:
-    """While something is done for which others wait: it doesn't wait at the server behind the other requests of its
+    """While something is done for which others wait: it doesn't wait at the server for the other requests of its
     user, who may have hundreds."""
     token = IS_AWAITED.set(True)
     try:
