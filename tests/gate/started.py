@@ -25,7 +25,8 @@ STAND_IN = {"rt": f"[ $1 != version ] || exec echo 'rattle-kit {program.LOGIC}';
             "rattle": f"echo {SAYS}; exit 1"}
 # What has no option --program, and what has it and needs none.
 WITHOUT = ("bench/first_run.py", "bench/proofs.py", "bin/release", "bin/run", "tests/stores/make")
-OF_TOOLS = ("cache_memory", "completion", "foreign", "formats", "large_model", "launcher", "measured", "release")
+OF_TOOLS = ("cache_memory", "completion", "foreign", "formats", "gate", "large_model", "launcher", "measured",
+            "release")
 NEEDS_NONE = ("bin/test", "bin/bench", "tests/gate/", "tools/", *(f"tests/tools/test_{tool}.py" for tool in OF_TOOLS))
 # What begins to prove although it has no such option, or although the others of its folder need none.
 BUILDS = ("bin/nixkeep", "bin/release", "tests/cases/who.txt")
