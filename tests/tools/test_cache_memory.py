@@ -10,8 +10,9 @@ from pathlib import Path
 import pytest
 
 from nixkeep_dev.build.program import HERE
-from nixkeep_tools import cache_blobs, cache_fair, cache_http, cache_limit, cache_names, cache_overview, cache_passing
-from nixkeep_tools import blob_packing, cache_roots, cache_server, cache_uploads, nar, store_size
+from nixkeep_tools import blob_packing, cache, cache_blobs, cache_fair, cache_http, cache_limit, cache_names
+from nixkeep_tools import cache_options, cache_overview, cache_passing, cache_roots, cache_server, cache_signing
+from nixkeep_tools import cache_uploads, cache_waiting, nar, overview_source, store_size
 from parts import TOOLS
 
 pytestmark = pytest.mark.needs("python3-aiohttp", "python3-zstandard")
@@ -107,6 +108,23 @@ def test_what_comes_while_a_server_runs(first, kind, is_add, monkeypatch):
                                                                      (bytes_of, runs, next_start)))
     assert file > (0.9 if {first, kind} == {"archives"} else 0.1) * most
     assert starts + store_size.CACHE + own < MEMORY
+
+
+def test_the_limit_counts_listings(tmp_path, monkeypatch):
+    """What listings of all objects and of all roots take counts with what nixkeep-cache has, by their lengths now."""
+    config = tmp_path / "store.toml"
+    config.write_text("")
+    said = cache_options.read(["--proxied", "--config", str(config), "--waiting", str(tmp_path / "waiting")])
+    waiting = cache_waiting.Waiting(said.waiting, said.waiting_count, said.waiting_bytes, said.waiting_seconds)
+    server = cache_server.Server(cache_server.Port("127.0.0.1", 9), 1)
+    settings = overview_source.settings(said.config)
+    parts, *_ = cache.parts_of(said, server, waiting, settings, cache_signing.made(said, settings[0]), None)
+    passing, = (part for part in parts if isinstance(part, cache_passing.Passing))
+    monkeypatch.setattr(store_size, "resident", lambda: 50)
+    for listing in (passing.names, passing.roots):
+        before = passing.limit.own()
+        listing.size += 1000
+        assert passing.limit.own() == before + 1000 * cache_limit.LISTINGS
 
 
 def test_adds_are_refused_before_roots():
