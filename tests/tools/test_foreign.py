@@ -180,7 +180,6 @@ def bucket(monkeypatch):
     for name, value in (("ACCESS_KEY_ID", "a"), ("SECRET_ACCESS_KEY", "b"), ("DEFAULT_REGION", "us-east-1")):
         monkeypatch.setenv(f"AWS_{name}", value)
     monkeypatch.setattr(blobs_bucket, "TRIES", 1)
-    monkeypatch.setattr(blobs_bucket, "SECONDS", 0.5)
     return lambda url: blobs_bucket.Bucket("b", "p", "parts", url)
 
 
@@ -204,7 +203,10 @@ def test_parts_of_a_blob_in_a_bucket(reply, is_right, bucket):
                 work()
 
 
-def test_a_bucket_that_does_not_answer(bucket):
+def test_a_bucket_that_does_not_answer(bucket, monkeypatch):
+    from nixkeep_tools import blobs_bucket
+
+    monkeypatch.setattr(blobs_bucket, "SECONDS", 0.5)
     with answering(lambda *_: time.sleep(2) or text(200, b"")) as url:
         place = bucket(url)
         for work in (place.size, lambda name: place.put(__file__, name)):

@@ -1,4 +1,5 @@
 """A binary cache of Nix over a store's server, on Debian's python3-aiohttp."""
+import argparse
 import asyncio
 import contextlib
 import functools
@@ -135,7 +136,8 @@ def large_of(said, server, folder, sending, shares, store, ends):
     return [large, Sweep(kept, large.pointers, shares, said.grace, said.idle, f"{folder}/swept.json", near)]
 
 
-def parts_of(said, server, waiting, settings, signing, ends):
+def parts_of(said: argparse.Namespace, server: Server, waiting: Waiting, settings: tuple[str, bool, bool],
+             signing: cache_signing.Signing, ends: asyncio.Event) -> tuple[list, Sessions, Watched]:
     """The parts that answer, each with its routes, the sessions, and what is watched. The first route that fits has a
     request."""
     store, *keeps = settings
