@@ -46,8 +46,8 @@ REMARKS = [
            seen, with nginx's own files as well."""),
     Remark(r"(readers|over_http): (?!.* in nginx's cache).*: 99th percentile",
            "one request in a hundred, next to half of them",
-           """Of 64 clients of `nixkeep-cache` alone, it waits 1.4 times as long. nginx and the clients share its
-           processors, so whatever else runs is seen."""),
+           """Of 64 clients of `nixkeep-cache` alone it waits 1.4 times as long, of nginx and a server 1.3 times. Why it
+           is more with both isn't known."""),
     Remark(r"questions: .*POST /delete, of it and of these", "a deletion of a path with ten referrers",
            """It deletes eleven objects, and syncs the log. Its denial takes half as long."""),
     Remark(r"nix: `cat-nar` of 16 MiB: time", "`cat-nar`, next to a copy of the file by `cat`",
